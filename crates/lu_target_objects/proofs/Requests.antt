@@ -17,7 +17,7 @@ use Rattle.lu_target_rows.specs.Objects.{objects_go, lock_of}
 use Rattle.lu_target_rows.specs.Requests.{row_enters, by_number, goes_on, releases, row_cancels, row_finds}
 use Rattle.lu_target_objects.specs.States.{Unasked, Orderly}
 use Rattle.lu_target_objects.specs.Entries.{Each}
-use Rattle.lu_target_objects.specs.Claims.{AsksBytes, RequestComes, CancelComes, WhereComes}
+use Rattle.lu_target_objects.specs.Claims.{AsksBytes, IsNew, RequestComes, CancelComes, WhereComes}
 use Rattle.lu_target_objects.proofs.Lists.{in_right}
 use Rattle.lu_target_objects.proofs.Locks.{lock_of_is}
 use Rattle.lu_target_objects.proofs.Kept.{stays_orderly}
@@ -28,8 +28,7 @@ use Rattle.lu_target_objects.proofs.Objects.{objects_each}
 
 -- ---- requests
 
-enters_each : (v : Target) (at : At) (r : RequestOf) → Orderly v → r.boot ≡ v.boot → Unasked v.glimpses r → AsksBytes r.op → (slot_in v.slots r.who r.tag).taken < r.xid.0
-    → Each v at (row_enters v at r)
+enters_each : (v : Target) (at : At) (r : RequestOf) → Orderly v → r.boot ≡ v.boot → Unasked v.glimpses r → AsksBytes r.op → IsNew v r → Each v at (row_enters v at r)
 enters_each v at r o present unasked ordered new = ((present, new), by (is_names v) o.bytes)
   where
     w : Target
@@ -43,7 +42,7 @@ pub request_each : RequestComes
 request_each v at r o present unasked ordered = by (slot_in v.slots r.who r.tag) refl (nat_lt (slot_in v.slots r.who r.tag).taken r.xid.0) refl (nat_eq (slot_in v.slots r.who r.tag).taken r.xid.0)
   where
     by : (s : Slot) → slot_in v.slots r.who r.tag ≡ s → (a : Bool) → nat_lt (slot_in v.slots r.who r.tag).taken r.xid.0 ≡ a → (b : Bool) → Each v at (by_number v at r s.reply a b)
-    by s e true f b = enters_each v at r o present unasked ordered (grind (arith, nat_tests))
+    by s e true f b = let new : IsNew v r = grind (arith, nat_tests) in enters_each v at r o present (unasked new) ordered new
     by s e false f false = tt
     by s e false f true = kept s.reply refl
       where

@@ -1,5 +1,5 @@
 -- The rows on bytes of an object storage target make entries that rest on its state, entry by entry, and keep what it keeps.
-use Rattle.std.specs.Prelude.{◌≡◌, ◌⊎◌, ℕ, ◌≤◌, true, ◌==◌, false, List, Option, None}
+use Rattle.std.specs.Prelude.{◌≡◌, ◌⊎◌, ℕ, ◌<◌, ◌≤◌, true, ◌==◌, false, List, Option, None}
 use Rattle.lu_base.specs.declared.ids.At.{At}
 use Rattle.lu_base.specs.declared.ids.Cookie.{Cookie}
 use Rattle.lu_base.specs.declared.ids.Who.{Who}
@@ -14,7 +14,7 @@ use Rattle.lu_msg.specs.declared.operations.Op.{Op}
 use Rattle.lu_msg.specs.declared.operations.Op.TheVariants as op
 use Rattle.lu_words.specs.Carried.{Glimpse}
 use Rattle.lu_words.specs.Words.{Entry}
-use Rattle.lu_target_rows.specs.Lives.{is_life}
+use Rattle.lu_target_rows.specs.Lives.{is_life, slot_in}
 use Rattle.lu_target_rows.specs.States.{Setting, Target, started, turn}
 use Rattle.lu_target_rows.specs.Queues.{queue_goes, queues_go, all_queues_go}
 use Rattle.lu_target_rows.specs.Glimpses.{row_report, asked_for}
@@ -42,9 +42,13 @@ AsksBytes _ = Unit {0}
 abbrev pub ObjectsGo : Type 0
 ObjectsGo = (v : Target) (at : At) (r : RequestOf) → Orderly v → In r v.queue → Unasked v.glimpses r → AsksBytes r.op → Each v at (objects_go v at r r.op)
 
--- a request that comes, new or again
+-- its number is above all that were taken of its life and tag
+abbrev pub IsNew : Target → RequestOf → Type 0
+IsNew v r = (slot_in v.slots r.who r.tag).taken < r.xid.0
+
+-- a request that comes, new or again; for a new one no glimpse waits, and for one that comes again one may
 abbrev pub RequestComes : Type 0
-RequestComes = (v : Target) (at : At) (r : RequestOf) → Orderly v → r.boot ≡ v.boot → Unasked v.glimpses r → AsksBytes r.op → Each v at (row_request v at r)
+RequestComes = (v : Target) (at : At) (r : RequestOf) → Orderly v → r.boot ≡ v.boot → (IsNew v r → Unasked v.glimpses r) → AsksBytes r.op → Each v at (row_request v at r)
 
 -- a lock that was granted goes, or one of a life that has left, with those glimpses for which its holder was asked
 abbrev pub LockGoes : Type 0
@@ -85,9 +89,9 @@ JoinComes = (v : Target) (at : At) (who : Who) → Orderly v → Each v at (row_
 
 -- ---- all turns while it serves
 
--- a request that comes isn't of a later boot, none of its number waits for a holder, and it asks for locks on bytes
+-- a request that comes isn't of a later boot; if it is new, then none of its number waits for a holder; and it asks for locks on bytes
 abbrev pub MayCome : Target → Message → Type 0
-MayCome v (message.Request r) = (r.boot ≤ v.boot) × Unasked v.glimpses r × AsksBytes r.op
+MayCome v (message.Request r) = (r.boot ≤ v.boot) × (IsNew v r → Unasked v.glimpses r) × AsksBytes r.op
 MayCome v _ = Unit {0}
 
 -- no crash, and no boot

@@ -27,7 +27,7 @@ pub fn queues_rest_on_the_state()
 /// Requests on objects.
 ///
 /// - `taken`: one that was taken, and for which no glimpse waits: a lock is granted or waits, bytes are read or written, a size is told.
-/// - `comes`: one that comes, new or again.
+/// - `comes`: one that comes, new or again; for a new one no glimpse waits.
 #[tactic(auto, using(crate::proofs::Objects::objects_each, crate::proofs::Requests::request_each))]
 pub fn requests_rest_on_the_state()
     ensures taken { ObjectsGo }
