@@ -30,6 +30,7 @@ use Rattle.lu_guards.proofs.Acts.{acted}
 use Rattle.lu_guards.proofs.Grown.{ShowsNext, IsPlaced}
 use Rattle.lu_guards.proofs.Lists.{in_append, in_filter, in_filtered}
 use Rattle.lu_guards.proofs.LifeLists.{any_lives}
+use Rattle.lu_guards.proofs.Has.{in_but}
 use Rattle.lu_facts.proofs.Groups.{turn, Acted, HasSlot, Evicted, IsMade, Stands, Rebuilt, StoredFor, OnDisk, DiskSlots, Coming, Comes, HoldsAt}
 use Rattle.lu_facts.proofs.DoneGrows.{rebuilt_more}
 use Rattle.lu_facts.proofs.GrantLines.{grant_made}
@@ -298,17 +299,13 @@ level_is head past at e shows out c = by c.level
     by (inl e) = e
     by (inr k) = absurd (out (subst IsCommit (sym (shows (Commit k.0 k.1) k.2 k.3).0) tt))
 
-in_rest : (e : Entry) (es : List Entry) → In e (but_first es) → In e es
-in_rest e [] i = absurd i
-in_rest e (x ∷ es) i = inr i
-
 -- a line of the target that isn't of a close
 module _ (clients osts : ℕ) (past : List Line) (c : Comes osts clients past) where
   none_next : (to : ℕ) (batch : Batch) (more : List Entry) → but_first (closing_of clients past) ≡ Commit to batch ∷ more → ⊥
   none_next to batch more q = c.once to batch (subst (λ (es : List Entry). In (Commit to batch) es) (sym q) (inl refl))
 
   none_once : (to : ℕ) (batch : Batch) → In (Commit to batch) (but_first (but_first (closing_of clients past))) → ⊥
-  none_once to batch i = c.once to batch (in_rest (Commit to batch) (but_first (closing_of clients past)) i)
+  none_once to batch i = c.once to batch (in_but (Commit to batch) (but_first (closing_of clients past)) i)
 
 -- a close shows no commit but the first
 abbrev NoCommit : List Entry → Type 0

@@ -10,6 +10,7 @@ use Rattle.lu_target_rows.specs.Stored.{last_number}
 use Rattle.lu_client_rows.specs.Imports.{Replay, Kept, with_number, with_numbers, with_replay, replay_of, with_reply, settled}
 use Rattle.lu_guards.proofs.Guards.{In}
 use Rattle.lu_guards.proofs.Lists.{in_filter, in_filtered}
+use Rattle.lu_guards.proofs.Has.{in_with_replay}
 use Rattle.lu_facts.proofs.Groups.{ReplaysRise}
 
 -- ---- numbers
@@ -55,16 +56,6 @@ numbers_new (n ∷ ns) x ms (inr i) = numbers_new ns x (with_number n ms) i
 
 -- ---- replays
 
-pub replay_in : (r x : Replay) (qs : List Replay) → In x (with_replay r qs) → (r ≡ x) ⊎ In x qs
-replay_in r x [] i = i
-replay_in r x (q ∷ qs) i =
-    cond_both (nat_lt q.txn.0 r.txn.0) (q ∷ with_replay r qs) (if nat_eq q.txn.0 r.txn.0 then r ∷ qs else r ∷ q ∷ qs) (λ (zs : List Replay). In x zs → (r ≡ x) ⊎ In x (q ∷ qs))
-    (λ t j. ⊎_elim (λ (e : q ≡ x). inr (inl e)) (λ (k : In x (with_replay r qs)). ⊎_elim (λ (e : r ≡ x). inl e) (λ (o : In x qs). inr (inr o)) (replay_in r x qs k)) j)
-    (λ t. cond_both (nat_eq q.txn.0 r.txn.0) (r ∷ qs) (r ∷ q ∷ qs) (λ (zs : List Replay). In x zs → (r ≡ x) ⊎ In x (q ∷ qs))
-    (λ u j. ⊎_elim (λ (e : r ≡ x). inl e) (λ (k : In x qs). inr (inr k)) j)
-    (λ u j. j))
-    i
-
 pub replay_new : (r : Replay) (qs : List Replay) → In r (with_replay r qs)
 replay_new r [] = inl refl
 replay_new r (q ∷ qs) =
@@ -93,7 +84,7 @@ replay_rises r (q ∷ qs) o =
     (λ u. (below t u, o)))
   where
     above : nat_lt q.txn.0 r.txn.0 ≡ true → (j : Replay) → In j (with_replay r qs) → q.txn.0 < j.txn.0
-    above t j i = ⊎_elim (λ (e : r ≡ j). subst (λ (v : Replay). q.txn.0 < v.txn.0) e (ltb-true q.txn.0 r.txn.0 t)) (λ (k : In j qs). o.0 j k) (replay_in r j qs i)
+    above t j i = ⊎_elim (λ (e : r ≡ j). subst (λ (v : Replay). q.txn.0 < v.txn.0) e (ltb-true q.txn.0 r.txn.0 t)) (λ (k : In j qs). o.0 j k) (in_with_replay r j qs i)
 
     less : nat_lt q.txn.0 r.txn.0 ≡ false → nat_eq q.txn.0 r.txn.0 ≡ false → r.txn.0 < q.txn.0
     less t u = let le = ltb-false q.txn.0 r.txn.0 t in let ne = eqb-false q.txn.0 r.txn.0 u in omega (arith, le, ne)
@@ -168,7 +159,7 @@ for_reply most heard more f r k now into out same h =
     from q i =
         cond_both (nat_eq r.txn.0 0) k.replays (with_replay (replay_of f r) k.replays) (λ (qs : List Replay). In q qs → (g : Flight) × (s : ReplyTo) × more g s × (q ≡ replay_of g s) × (0 < s.txn.0))
         (λ t j. old q j)
-        (λ t j. ⊎_elim (λ (e : replay_of f r ≡ q). (f, r, now, sym e, let ne = eqb-false r.txn.0 0 t in omega (arith, ne))) (λ (o : In q k.replays). old q o) (replay_in (replay_of f r) q k.replays j))
+        (λ t j. ⊎_elim (λ (e : replay_of f r ≡ q). (f, r, now, sym e, let ne = eqb-false r.txn.0 0 t in omega (arith, ne))) (λ (o : In q k.replays). old q o) (in_with_replay (replay_of f r) q k.replays j))
         i
 
 -- what one saw is shown again

@@ -238,7 +238,7 @@ no_work stage w (inr (inl p)) (inr q) = let e : Bad ≡ Came w q.0 = sym p ∙ q
 no_work stage w (inr (inr p)) (inl q) = let e : Sizes p.0 ≡ Enqueued w = sym p.1 ∙ q in cc
 no_work stage w (inr (inr p)) (inr q) = let e : Sizes p.0 ≡ Came w q.0 = sym p.1 ∙ q.1 in cc
 
-one_path : (p q : List (List ℕ)) → call.Stat p ≡ call.Stat q → p ≡ q
+pub one_path : (p q : List (List ℕ)) → call.Stat p ≡ call.Stat q → p ≡ q
 one_path p q e = cc
 
 one_kind : (a b m n : ℕ) → Stats a b ≡ Stats m n → (a ≡ m) × (b ≡ n)

@@ -218,7 +218,7 @@ module _ (osts : ℕ) (past new : List Line) (l : Later osts past new) (d : Deed
 -- ---- an act
 
 -- without locks nothing is taught
-none_taught : (o : Op) (a : Answer) (f : Fact) → In f (taught o a []) → ⊥
+pub none_taught : (o : Op) (a : Answer) (f : Fact) → In f (taught o a []) → ⊥
 none_taught (op.Lookup []) (told.Dir d) f i = i
 none_taught (op.Lookup []) (told.File d) f i = i
 none_taught (op.Stat []) (told.DirStat d m) f i = i

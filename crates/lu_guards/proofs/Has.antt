@@ -103,6 +103,21 @@ Fine n G T k =
       answer : Ungranted k.answer ⊎ T k.who k.xid.0 k.answer;
     }
 
+pub in_but : (e : Entry) (es : List Entry) → In e (but_first es) → In e es
+in_but e [] i = i
+in_but e (x ∷ es) i = inr i
+
+pub in_with_replay : (r q : Replay) (rs : List Replay) → In q (with_replay r rs) → (r ≡ q) ⊎ In q rs
+in_with_replay r q [] i = i
+in_with_replay r q (x ∷ rs) i = by (nat_lt x.txn.0 r.txn.0) (nat_eq x.txn.0 r.txn.0) i (in_with_replay r q rs)
+  where
+    by : (below same : Bool) → In q (if below then x ∷ with_replay r rs else if same then r ∷ rs else r ∷ x ∷ rs) → (In q (with_replay r rs) → (r ≡ q) ⊎ In q rs) → (r ≡ q) ⊎ In q (x ∷ rs)
+    by true same (inl e) more = inr (inl e)
+    by true same (inr j) more = ⊎_elim (λ (e : r ≡ q). inl e) (λ (k : In q rs). inr (inr k)) (more j)
+    by false true (inl e) more = inl e
+    by false true (inr j) more = inr (inr j)
+    by false false i more = i
+
 module _ (n : ℕ) (G : Lock → Type 0) (T : Who → ℕ → Answer → Type 0) (head : Head) where
   -- so are all replies that the target keeps, has on its disk, is to put there by a close, or sent; and what it has granted, and clients have of
   -- it, tell in a recovery, and it has taken then
@@ -136,10 +151,6 @@ module _ (n : ℕ) (G : Lock → Type 0) (T : Who → ℕ → Answer → Type 0)
         replays = λ r i. absurd i;
         brought = λ l i. absurd i;
       }
-
-  pub in_but : (e : Entry) (es : List Entry) → In e (but_first es) → In e es
-  in_but e [] i = i
-  in_but e (x ∷ es) i = inr i
 
   -- ---- what is sent
 
@@ -288,17 +299,6 @@ module _ (n : ℕ) (G : Lock → Type 0) (T : Who → ℕ → Answer → Type 0)
       ⊎_elim (λ (r : (k : Lock) × In k ls × (held_as t k false ≡ x)). inl (r.0, inr r.1, r.2))
       (λ (j : In x (with_held (held_as t l false) hs)). ⊎_elim (λ (e : held_as t l false ≡ x). inl (l, inl refl, e)) (λ (m : In x hs). inr m) (with_only (held_as t l false) x hs j))
       (brought_from t ls (with_held (held_as t l false) hs) x i)
-
-  in_with_replay : (r q : Replay) (rs : List Replay) → In q (with_replay r rs) → (r ≡ q) ⊎ In q rs
-  in_with_replay r q [] i = i
-  in_with_replay r q (x ∷ rs) i = by (nat_lt x.txn.0 r.txn.0) (nat_eq x.txn.0 r.txn.0) i (in_with_replay r q rs)
-    where
-      by : (below same : Bool) → In q (if below then x ∷ with_replay r rs else if same then r ∷ rs else r ∷ x ∷ rs) → (In q (with_replay r rs) → (r ≡ q) ⊎ In q rs) → (r ≡ q) ⊎ In q (x ∷ rs)
-      by true same (inl e) more = inr (inl e)
-      by true same (inr j) more = ⊎_elim (λ (e : r ≡ q). inl e) (λ (k : In q rs). inr (inr k)) (more j)
-      by false true (inl e) more = inl e
-      by false true (inr j) more = inr (inr j)
-      by false false i more = i
 
   in_with_reply : (f : Flight) (r : ReplyTo) (q : Replay) (rs : List Replay) → In q (with_reply f r rs) → (replay_of f r ≡ q) ⊎ In q rs
   in_with_reply f r q rs = by (nat_eq r.txn.0 0)

@@ -108,7 +108,7 @@ unwritten_line head story l ok h u = by l.at.node l.entry ok
     by : (node : Node) (e : Entry) → EntryOf head story (turn l.at.stamp node) node e → Unwritten head (line (turn l.at.stamp node) e ∷ story)
     by (Target t) (Commit to batch) ok =
         record {
-          closing = λ n b i. u.closing n b (in_but 0 AnyLock AnyAnswer head (Commit n b) (closing_of head.clients story) i);
+          closing = λ n b i. u.closing n b (in_but (Commit n b) (closing_of head.clients story) i);
           disk = stored_objects head.osts batch (disk_of head.osts head.clients story) (low ok.of_batch) ∙ u.disk;
         }
       where
@@ -120,7 +120,7 @@ unwritten_line head story l ok h u = by l.at.node l.entry ok
         low (inr due) = u.closing to batch (subst (λ (es : List Entry). In (Commit to batch) es) (sym due.1) (inl refl))
     by (Target t) (Boot boot disk) ok =
         record {
-          closing = λ n b i. u.closing n b (in_but 0 AnyLock AnyAnswer head (Commit n b) (closing_of head.clients story) i);
+          closing = λ n b i. u.closing n b (in_but (Commit n b) (closing_of head.clients story) i);
           disk = ap (λ (x : Disk). x.contents.objects) ok.of_disk ∙ u.disk;
         }
     by (Target t) (Close o) ok = record { closing = λ n b i. shown n b (subst (λ (x : Outcome). In (Commit n b) (closing_of head.clients (line at (Close x) ∷ story))) ok.is i); disk = u.disk }
@@ -133,7 +133,7 @@ unwritten_line head story l ok h u = by l.at.node l.entry ok
 
         shown : (n : ℕ) (b : Batch) → In (Commit n b) (closing_of head.clients (line at (Close x) ∷ story)) → Low b.transactions
         shown n b i = subst (λ (y : Batch). Low y.transactions) (sym (shown_commit 0 AnyLock AnyAnswer head x (lives_of head.clients story) n b i)) (kept_low head story at h)
-    by (Target t) e ok = record { closing = λ n b i. u.closing n b (in_but 0 AnyLock AnyAnswer head (Commit n b) (closing_of head.clients story) i); disk = u.disk }
+    by (Target t) e ok = record { closing = λ n b i. u.closing n b (in_but (Commit n b) (closing_of head.clients story) i); disk = u.disk }
     by (Client c) e ok = record { closing = u.closing; disk = u.disk }
 
 pub unwritten : (head : Head) (t : ℕ) (past : List Line) → 0 < t → Grown head past → Unwritten head (only t past)

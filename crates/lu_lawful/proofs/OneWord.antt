@@ -107,7 +107,7 @@ count_used : (t : ℕ) (name : LockName) (hs : List HeldLock) → count t (used 
 count_used t name hs = count_append t (filter (is_named name) hs) (without name hs) ∙ count_parts t (is_named name) hs
 
 -- a lock of another target
-named_target : (name : LockName) (g : HeldLock) → is_named name g ≡ true → name.target.0 ≡ g.target.0
+pub named_target : (name : LockName) (g : HeldLock) → is_named name g ≡ true → name.target.0 ≡ g.target.0
 named_target name g e = eqb-true name.target.0 g.target.0 (and_parts (nat_eq name.target.0 g.target.0) _ e).0
 
 count_with : (t : ℕ) (h : HeldLock) (hs : List HeldLock) → nat_eq h.target.0 t ≡ false → count t (with_held h hs) ≡ count t hs

@@ -1,7 +1,7 @@
 -- A held lock on an object that is pinned isn't marked: none is called back.
 use Rattle.std.proofs.Common.{◌≡◌, ℕ, ◌<◌, true, false, List, [], ◌∷◌, ◌⊎◌, inl, inr, ⊎_elim, refl, sym, subst, ap, ◌∙◌, arith}
 use Rattle.std.specs.Prelude.{nat_eq, if◌then◌else◌}
-use Rattle.std.proofs.lemmas.Bool.{cond_both, and_parts, eqb-true}
+use Rattle.std.proofs.lemmas.Bool.{cond_both, eqb-true}
 use Rattle.lu_base.specs.declared.ids.At.{At}
 use Rattle.lu_base.specs.declared.ids.Cookie.{Cookie}
 use Rattle.lu_base.specs.declared.ids.Node.{Node}
@@ -27,6 +27,7 @@ use Rattle.lu_guards.proofs.Only.{sent_was}
 use Rattle.lu_guards.proofs.ClientLines.{comes_to}
 use Rattle.lu_guards.proofs.ClientLocks.{with_only, brought_only, changed_only, used_only, without_only, unmarked_only}
 use Rattle.lu_lawful.proofs.SilentHeld.{Lasts, pin_lasts, unpin_lasts, mark_lasts}
+use Rattle.lu_lawful.proofs.OneWord.{named_target}
 
 -- of an object
 abbrev pub AllLast : List HeldLock → Type 0
@@ -63,14 +64,11 @@ module _ (head : Head) where
         H : List HeldLock
         H = held_at c past
 
-        same_target : (name : LockName) (x : HeldLock) → is_named name x ≡ true → name.target.0 ≡ x.target.0
-        same_target name x e = eqb-true name.target.0 x.target.0 (and_parts (nat_eq name.target.0 x.target.0) (nat_eq name.cookie.0 x.lock.cookie.0) e).0
-
         free : (d : ℕ) (name : LockName) → nat_eq c d ≡ true → IsFree past d name ⊎ CallsBack past (turn l.at.stamp (Client d)) name → (x : HeldLock) → In x H → is_named name x ≡ true → 0 < x.target.0 → x.pins ≡ 0
         free d name own (inl k) x i t o = k x (subst (λ (v : ℕ). In x (held_at v past)) (eqb-true c d own) i) t
         free d name own (inr k) x i t o =
             let first = called_first past (turn l.at.stamp (Client d)) d name.target.0 k.0 k.1 name.cookie g.1 refl k.2 in
-            let same = same_target name x t in
+            let same = named_target name x t in
             absurd (omega (arith, first, same, o))
 
         by : (node : Node) (e : Entry) → EntryOk past (turn l.at.stamp node) node e → AllLast H → AllLast (held_at c (line (turn l.at.stamp node) e ∷ past))

@@ -48,6 +48,7 @@ use Rattle.lu_facts.proofs.PartsStay.{sound_now}
 use Rattle.lu_facts.proofs.Taught.{tree_for}
 use Rattle.lu_facts.proofs.ToldFiles.{FileKnown, told_file}
 use Rattle.lu_facts.proofs.TaughtKnown.{Agrees, fact_found, fact_there, name_there, one_name, same_inode}
+use Rattle.lu_facts.proofs.StatFacts.{one_path}
 use Rattle.lu_lawful.proofs.SilentKnown.{Grows, IsKnown, known_more}
 use Rattle.lu_lawful.proofs.SilentHeld.{bare_at, grows_to_bare, notes_grow}
 use Rattle.lu_lawful.proofs.SilentAgrees.{tree, bound, is_true, agrees}
@@ -299,9 +300,6 @@ module _ (head : Head) (c slot : ℕ) where
               (subst (λ (v : List (List ℕ)). SomeFile (bare_at c past) v k.stat.fid k.stat.layout) one
               (stat_of past (turn l.at.stamp l.at.node) g.1 own before x j is ok.running ok.call ok.pins k.stat)))))
             where
-              one_path : (p q : List (List ℕ)) → call.Stat p ≡ call.Stat q → p ≡ q
-              one_path p q e = cc
-
               stands : ((ok.stage ≡ Enqueued k.work) × LacksOf past c (wants_of k.stat.layout k.stat.fid (Stats k.stat.mode k.stat.links)) k.work)
                   ⊎ ((lock : Lock) × (ok.stage ≡ CameLock k.work lock) × ((from : ℕ) × (reply : ReplyTo) × (ok.running.asking ≡ Answered from reply))) → IsOn ok.stage k.work
               stands (inl q) = inl q.0

@@ -47,6 +47,7 @@ use Rattle.lu_facts.proofs.TaughtKnown.{Agrees, AllUsable, Comes, taught_under}
 use Rattle.lu_facts.proofs.Comes.{NoRefusal, acted_comes}
 use Rattle.lu_facts.proofs.HeldThere.{brought_new}
 use Rattle.lu_facts.proofs.ToldFiles.{plain_first}
+use Rattle.lu_facts.proofs.Taught.{none_taught}
 use Rattle.lu_lawful.proofs.SilentKnown.{IsKnown, taught_known}
 use Rattle.lu_lawful.proofs.SilentHeld.{Present, Lasts, bare_at, present_bare, held_stays, notes_grow}
 use Rattle.lu_lawful.proofs.SilentCalm.{calm_before, calm_stays}
@@ -170,9 +171,6 @@ module _ (head : Head) (c slot : ℕ) where
 
     -- ---- what it told is known since, where no lock or life was given up
 
-    no_locks : (o : Op) (a : Answer) (facts : Fact) → In facts (taught o a []) → ⊥
-    no_locks o a x i = (taught_under o a [] x i).1.0
-
     all_usable : (past : List Line) (o : Op) (a : Answer) → ((x : Fact) → In x (taught o a r.locks) → In x (facts_at c past)) → AllHeld past → AllUsable (bare_at c past) (taught o a r.locks)
     all_usable past o a known held x i =
         let l = taught_under o a r.locks x i in
@@ -202,7 +200,7 @@ module _ (head : Head) (c slot : ℕ) where
         by (Client d) (Heard u g k) grown h ih =
             let same = client_is d (turn l.at.stamp (Client d)) refl h.0 in (
               heard_serves past l.at.stamp d u g k h.1 grown.0 grown.1 same h.2,
-              λ calm_now x i. absurd (no_locks f.op r.answer x (subst (λ (v : List Lock). In x (taught f.op r.answer v)) h.4 i)),
+              λ calm_now x i. absurd (none_taught f.op r.answer x (subst (λ (v : List Lock). In x (taught f.op r.answer v)) h.4 i)),
             )
         by (Client d) (Learns u o a locks) grown h ih =
             let same = client_is d (turn l.at.stamp (Client d)) refl h.0 in
