@@ -134,6 +134,8 @@ is_bad c past _ = false
 abbrev pub file_for : ℕ → List Line → Call → Option HandleFile
 file_for c past (call.Close h) = file_at c h past
 file_for c past (call.Read h offset count) = file_at c h past
+file_for c past (call.Write h offset bytes) = file_at c h past
+file_for c past (call.Cut h size) = file_at c h past
 file_for c past (call.Flush h) = file_at c h past
 file_for c past (call.Glimpse h) = file_at c h past
 file_for c past _ = None

@@ -1,9 +1,13 @@
 -- What a client asks of one target, after a past in which nothing is about another. What is asked is a life's: a line counts for the
 -- life that its client is in, and a life that is over stays as it was.
-use Rattle.std.specs.Prelude.{ℕ, Bool, false, List, [], ◌∷◌, ◌&&◌, ◌==◌, if◌then◌else◌}
+use Rattle.std.specs.Prelude.{ℕ, ◌+◌, ◌-◌, Bool, false, List, [], ◌∷◌, ◌&&◌, ◌==◌, if◌then◌else◌}
 use Rattle.lu_base.specs.declared.ids.Node.{Node}
 use Rattle.lu_base.specs.declared.ids.Node.TheVariants.{Client, Target}
 use Rattle.lu_base.specs.declared.ids.Who.{Who}
+use Rattle.lu_msg.specs.declared.answers.Answer.{Answer}
+use Rattle.lu_msg.specs.declared.answers.Answer.TheVariants as told
+use Rattle.lu_msg.specs.declared.operations.Op.{Op}
+use Rattle.lu_msg.specs.declared.operations.Op.TheVariants as op
 use Rattle.lu_words.specs.Carried.{Queued, Flight}
 use Rattle.lu_words.specs.Words.{Heard, Hold, Life, Queues, Flies, Knows, Serves, Settles, Line, is_client, same_life}
 use Rattle.lu_covered.specs.Calls.{first_life}
@@ -75,4 +79,23 @@ kept_of who (l ∷ past) =
       | Settles t to ↦ if is_own who past l.at.node then kept_after (kept_of who past) (Settles t to) else kept_of who past
       | Life new ↦ if is_client who.client l.at.node && same_life who new then record nothing_kept { committed = (kept_of (life_of who.client past) past).committed } else kept_of who past
       | _ ↦ kept_of who past
+    ]
+
+-- ---- locks that it waits for
+
+-- a reply by which the lock of that cookie was granted, or told to wait
+abbrev pub brings_cookie : Op → Answer → ℕ → Bool
+brings_cookie (op.Enqueue resource mode extent) (told.Granted cookie given size) k = cookie.0 == k
+brings_cookie (op.Enqueue resource mode extent) (told.Waiting cookie) k = cookie.0 == k
+brings_cookie o a k = false
+
+-- how often the lock of that cookie is to come: it was granted, or told to wait; it wasn't held since, and the life heard of no new boot
+abbrev pub awaits_of : Who → ℕ → List Line → ℕ
+awaits_of who k [] = 0
+awaits_of who k (l ∷ past) =
+    elim l.entry [
+      | Heard t f r ↦ if is_own who past l.at.node && brings_cookie f.op r.answer k then awaits_of who k past + 1 else awaits_of who k past
+      | Hold t lock marked size seen ↦ if is_own who past l.at.node && lock.cookie.0 == k then awaits_of who k past - 1 else awaits_of who k past
+      | Knows t boot ↦ if is_own who past l.at.node then 0 else awaits_of who k past
+      | _ ↦ awaits_of who k past
     ]

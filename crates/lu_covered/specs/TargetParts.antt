@@ -7,14 +7,17 @@ use Rattle.lu_base.specs.declared.ids.Txn.{Txn as TxnOf}
 use Rattle.lu_base.specs.declared.ids.Who.{Who}
 use Rattle.lu_msg.specs.declared.messages.Request.{Request as RequestOf}
 use Rattle.lu_machine.specs.Tree.{Tree}
-use Rattle.lu_machine.specs.Footprint.{Operation, after, forget}
-use Rattle.lu_words.specs.Carried.{Deed, Slot}
-use Rattle.lu_words.specs.Words.{Entry, Act, Txn, Grant, Commit, Crash, Boot, Close, Restore, Enters, Block, Release, Evict, Joined, same_life}
+use Rattle.lu_machine.specs.Footprint.{Operation, after, empty, forget}
+use Rattle.lu_machine.specs.Objects.{Object}
+use Rattle.lu_words.specs.Carried.{Deed, Slot, Glimpse}
+use Rattle.lu_words.specs.Words.{Entry, Act, Txn, Grant, Wait, Answers, Asks, Ends, Commit, Crash, Boot, Close, Restore, Enters, Block, Release, Evict, Joined, same_life}
 use Rattle.lu_base.specs.declared.locks.Lock.{Lock}
+use Rattle.lu_base.specs.declared.locks.Resource.{Resource}
 use Rattle.lu_words.specs.Carried.{Called}
 use Rattle.lu_target_rows.specs.Phase.{first_of, greatest_cookie}
 use Rattle.lu_target_rows.specs.Lives.{is_life, with_life, without_lives, slot_in}
-use Rattle.lu_target_rows.specs.Locks.{with_lock, with_locks, without_lock, locks_without, called_without}
+use Rattle.lu_target_rows.specs.Locks.{with_lock, with_locks, without_lock, locks_without, called_without, same_glimpse}
+use Rattle.lu_target_rows.specs.Stored.{done_by, transaction_of}
 
 -- ---- the boot, and the number up to which all is on the disk
 
@@ -122,6 +125,8 @@ reads_waiting (Enters r) = true
 reads_waiting (Act d) = true
 reads_waiting (Txn d) = true
 reads_waiting (Grant lock asked) = true
+reads_waiting (Wait lock asked) = true
+reads_waiting (Answers d) = true
 reads_waiting (Evict who cause) = true
 reads_waiting (Close o) = true
 reads_waiting _ = false
@@ -131,6 +136,8 @@ waiting_after waiting (Enters r) = waiting ++ r ∷ []
 waiting_after waiting (Act d) = without_request d waiting
 waiting_after waiting (Txn d) = without_request d waiting
 waiting_after waiting (Grant lock asked) = waiting_granted asked waiting
+waiting_after waiting (Wait lock asked) = without_request asked waiting
+waiting_after waiting (Answers d) = without_request d waiting
 waiting_after waiting (Evict who cause) = filter (λ r. not (is_life r.who (who ∷ []))) waiting
 waiting_after waiting (Close o) = []
 waiting_after waiting _ = waiting
@@ -159,6 +166,8 @@ reads_slot (Enters r) = true
 reads_slot (Act d) = true
 reads_slot (Txn d) = true
 reads_slot (Grant lock asked) = true
+reads_slot (Wait lock asked) = true
+reads_slot (Answers d) = true
 reads_slot (Close o) = true
 reads_slot _ = false
 
@@ -167,6 +176,8 @@ slot_after who tag slot (Enters r) = if is_slot_of who tag r.who r.tag then ente
 slot_after who tag slot (Act d) = if is_slot_of who tag d.reply.who d.tag then answered d slot else slot
 slot_after who tag slot (Txn d) = if is_slot_of who tag d.reply.who d.tag then answered d slot else slot
 slot_after who tag slot (Grant lock asked) = slot_granted who tag slot asked
+slot_after who tag slot (Wait lock asked) = if is_slot_of who tag asked.reply.who asked.tag then answered asked slot else slot
+slot_after who tag slot (Answers d) = if is_slot_of who tag d.reply.who d.tag then answered d slot else slot
 slot_after who tag slot (Close o) = slot_in o.disk.slots who tag
 slot_after who tag slot _ = slot
 
@@ -204,14 +215,61 @@ shown_after locks _ = locks
 abbrev pub reads_cookie : Entry → Bool
 reads_cookie (Act d) = true
 reads_cookie (Grant lock asked) = true
+reads_cookie (Wait lock asked) = true
 reads_cookie (Boot boot disk) = true
 reads_cookie _ = false
 
 abbrev pub cookie_after : ℕ → Entry → ℕ
 cookie_after n (Act d) = greatest_cookie n d.reply.locks
 cookie_after n (Grant lock asked) = max n lock.cookie.0
+cookie_after n (Wait lock asked) = max n lock.cookie.0
 cookie_after n (Boot boot disk) = first_of boot
 cookie_after n _ = n
+
+-- ---- locks that wait, in the order in which they came: one that is granted waits no longer
+
+abbrev pub reads_queued : Entry → Bool
+reads_queued (Wait lock asked) = true
+reads_queued (Grant lock asked) = true
+reads_queued (Evict who cause) = true
+reads_queued (Close o) = true
+reads_queued _ = false
+
+abbrev pub queued_after : List Lock → Entry → List Lock
+queued_after locks (Wait lock asked) = locks ++ lock ∷ []
+queued_after locks (Grant lock asked) = without_lock lock locks
+queued_after locks (Evict who cause) = locks_without (who ∷ []) locks
+queued_after locks (Close o) = []
+queued_after locks _ = locks
+
+-- ---- glimpses that wait for a lock's holder, in the order in which they came
+
+abbrev pub reads_glimpses : Entry → Bool
+reads_glimpses (Asks g) = true
+reads_glimpses (Ends g) = true
+reads_glimpses (Evict who cause) = true
+reads_glimpses (Close o) = true
+reads_glimpses _ = false
+
+abbrev pub glimpses_after : List Glimpse → Entry → List Glimpse
+glimpses_after gs (Asks g) = gs ++ g ∷ []
+glimpses_after gs (Ends g) = filter (λ x. not (same_glimpse g x)) gs
+glimpses_after gs (Evict who cause) = filter (λ x. not (is_life x.request.who (who ∷ []))) gs
+glimpses_after gs (Close o) = []
+glimpses_after gs _ = gs
+
+-- ---- the objects of an object storage target
+
+abbrev pub reads_objects : Entry → Bool
+reads_objects (Txn d) = true
+reads_objects (Close o) = true
+reads_objects _ = false
+
+-- a transaction on names changes no object, one on an object changes no tree
+abbrev pub objects_after : List (Resource × Object) → Entry → List (Resource × Object)
+objects_after objects (Txn d) = (done_by 0 (transaction_of d) (record { tree = empty; objects = objects }) d.op).objects
+objects_after objects (Close o) = o.disk.contents.objects
+objects_after objects _ = objects
 
 -- ---- locks that were called back
 

@@ -6,14 +6,17 @@ use Rattle.lu_base.specs.declared.ids.Who.{Who}
 use Rattle.lu_msg.specs.declared.messages.Request.{Request as RequestOf}
 use Rattle.lu_machine.specs.Tree.{Tree}
 use Rattle.lu_machine.specs.Footprint.{empty}
+use Rattle.lu_machine.specs.Objects.{Object}
 use Rattle.lu_base.specs.declared.locks.Lock.{Lock}
-use Rattle.lu_words.specs.Carried.{Deed, Slot, Called, Said}
-use Rattle.lu_words.specs.Words.{Entry, Act, Txn, Grant, Commit, Boot, Close, Enters, Block, Release, Evict, Line}
+use Rattle.lu_base.specs.declared.locks.Resource.{Resource}
+use Rattle.lu_words.specs.Carried.{Deed, Slot, Called, Glimpse, Said}
+use Rattle.lu_words.specs.Words.{Entry, Act, Txn, Grant, Wait, Answers, Asks, Ends, Commit, Boot, Close, Enters, Block, Release, Evict, Line}
 use Rattle.lu_words.specs.Fields.{at_target}
 pub use Rattle.lu_target_rows.specs.Replies.{seen_in}
 use Rattle.lu_covered.specs.TargetParts.{reads_boot, boot_after, reads_count, count_after, reads_committed, committed_after, reads_tree, tree_after, reads_log, log_after, reads_waiting, waiting_after, no_slot, reads_slot, slot_after}
 use Rattle.lu_covered.specs.TargetParts.{reads_lives, lives_after, reads_evicted, evicted_after}
 use Rattle.lu_covered.specs.TargetParts.{reads_granted, granted_after, shown_after, reads_cookie, cookie_after, reads_called, called_after}
+use Rattle.lu_covered.specs.TargetParts.{reads_queued, queued_after, reads_glimpses, glimpses_after, reads_objects, objects_after}
 use Rattle.lu_target_rows.specs.Phase.{first_of}
 use Rattle.lu_target_rows.specs.States.{lives_from}
 use Rattle.lu_target_rows.specs.Phase.{up_after, closed_after}
@@ -30,6 +33,9 @@ pub record Server : Type 0 where
   pub granted : List Lock
   pub cookie : ℕ
   pub called : List Called
+  pub objects : List (Resource × Object)
+  pub queued : List Lock
+  pub glimpses : List Glimpse
 
 abbrev pub none : TxnOf
 none = record { 0 = 0 }
@@ -63,6 +69,15 @@ cookie_at t past = at_target reads_cookie cookie_after (first_of 1) t past
 abbrev pub called_at : ℕ → List Line → List Called
 called_at t past = at_target reads_called called_after [] t past
 
+abbrev pub objects_at : ℕ → List Line → List (Resource × Object)
+objects_at t past = at_target reads_objects objects_after [] t past
+
+abbrev pub queued_at : ℕ → List Line → List Lock
+queued_at t past = at_target reads_queued queued_after [] t past
+
+abbrev pub glimpses_at : ℕ → List Line → List Glimpse
+glimpses_at t past = at_target reads_glimpses glimpses_after [] t past
+
 -- in a run of so many clients
 abbrev pub lives_at : (clients : ℕ) → ℕ → List Line → List Who
 lives_at clients t past = at_target reads_lives lives_after (lives_from 0 clients) t past
@@ -85,12 +100,15 @@ server_at osts t past =
       granted = granted_at t past;
       cookie = cookie_at t past;
       called = called_at t past;
+      objects = objects_at t past;
+      queued = queued_at t past;
+      glimpses = glimpses_at t past;
     }
 
 -- ---- after its own entries
 
 abbrev pub server_start : Server
-server_start = record { boot = 1; count = 0; committed = none; tree = empty; log = []; waiting = []; granted = []; cookie = first_of 1; called = [] }
+server_start = record { boot = 1; count = 0; committed = none; tree = empty; log = []; waiting = []; granted = []; cookie = first_of 1; called = []; objects = []; queued = []; glimpses = [] }
 
 abbrev pub server_after : ℕ → Server → Entry → Server
 server_after osts v (Boot boot disk) = record v { boot = boot; count = count_after v.count (Boot boot disk); cookie = cookie_after v.cookie (Boot boot disk) }
@@ -103,6 +121,9 @@ server_after osts v (Close o) =
       waiting = [];
       granted = o.locks;
       called = [];
+      objects = objects_after v.objects (Close o);
+      queued = [];
+      glimpses = [];
     }
 server_after osts v (Enters r) = record v { waiting = waiting_after v.waiting (Enters r) }
 server_after osts v (Act d) =
@@ -116,7 +137,17 @@ server_after osts v (Grant lock asked) =
       waiting = waiting_after v.waiting (Grant lock asked);
       granted = granted_after v.granted (Grant lock asked);
       cookie = cookie_after v.cookie (Grant lock asked);
+      queued = queued_after v.queued (Grant lock asked);
     }
+server_after osts v (Wait lock asked) =
+    record v {
+      waiting = waiting_after v.waiting (Wait lock asked);
+      cookie = cookie_after v.cookie (Wait lock asked);
+      queued = queued_after v.queued (Wait lock asked);
+    }
+server_after osts v (Answers d) = record v { waiting = waiting_after v.waiting (Answers d) }
+server_after osts v (Asks g) = record v { glimpses = glimpses_after v.glimpses (Asks g) }
+server_after osts v (Ends g) = record v { glimpses = glimpses_after v.glimpses (Ends g) }
 server_after osts v (Block called) = record v { called = called_after v.called (Block called) }
 server_after osts v (Release lock) = record v { granted = granted_after v.granted (Release lock); called = called_after v.called (Release lock) }
 server_after osts v (Evict who cause) =
@@ -125,6 +156,8 @@ server_after osts v (Evict who cause) =
       waiting = waiting_after v.waiting (Evict who cause);
       granted = granted_after v.granted (Evict who cause);
       called = called_after v.called (Evict who cause);
+      queued = queued_after v.queued (Evict who cause);
+      glimpses = glimpses_after v.glimpses (Evict who cause);
     }
 server_after osts v (Txn d) =
     record v {
@@ -132,6 +165,7 @@ server_after osts v (Txn d) =
       tree = tree_after osts v.tree (Txn d);
       log = log_after v.log (Txn d);
       waiting = waiting_after v.waiting (Txn d);
+      objects = objects_after v.objects (Txn d);
     }
 server_after osts v _ = v
 
