@@ -1,5 +1,6 @@
--- What a client's calls have asked, at all targets: what is queued and in flight is for calls that wait for it, one
--- for each, each at the target that the call asks where it stands. In the turn that ends a life its calls are told first, and then what they asked is forgotten.
+-- What a client's calls have asked, at all targets: what is queued and in flight is for calls that wait for it, one for each, each at the
+-- target that the call asks where it stands; or it writes changes back, for no call. In the turn that ends a life its calls are told first, and
+-- then what they asked is forgotten.
 use Rattle.std.proofs.Common.{◌≡◌, ℕ, Bool, true, false, List, [], ◌∷◌, ◌++◌, Option, Some, None, ◌⊎◌, inl, inr, ⊎_elim, refl, sym, subst, ap, ◌∙◌, arith}
 use Rattle.std.specs.Prelude.{nat_eq, not, ◌&&◌}
 use Rattle.std.proofs.lemmas.Bool.{and_parts, cond_both, cond-true, cond-false, eqb-true, not-true}
@@ -9,20 +10,28 @@ use Rattle.lu_base.specs.declared.ids.Node.{Node}
 use Rattle.lu_base.specs.declared.ids.Node.TheVariants.{Client, Target}
 use Rattle.lu_base.specs.declared.ids.Stamp.{Stamp}
 use Rattle.lu_base.specs.declared.ids.Who.{Who}
+use Rattle.lu_base.specs.declared.locks.Extent.{Extent}
+use Rattle.lu_base.specs.declared.locks.Policy.{Policy}
+use Rattle.lu_base.specs.declared.locks.Policy.TheVariants.{Bits, Range}
 use Rattle.lu_msg.specs.declared.answers.Answer.{Answer}
 use Rattle.lu_msg.specs.declared.calls.Call.{Call}
 use Rattle.lu_msg.specs.declared.messages.Reply.{Reply as ReplyTo}
 use Rattle.lu_msg.specs.declared.operations.Op.{Op}
 use Rattle.lu_msg.specs.declared.operations.Op.TheVariants as op
+use Rattle.lu_held.specs.declared.locks.HeldLock.{HeldLock}
 use Rattle.lu_held.specs.declared.locks.Use.{Use}
-use Rattle.lu_words.specs.Carried.{HandleFile, Unasked, Asked, Answered, Queued, Flight, Stage, Plain, Enqueued, Sizes, Work, Running}
+use Rattle.lu_words.specs.declared.changes.Flush.{Flush}
+use Rattle.lu_words.specs.declared.changes.Flush.TheVariants.{Cut, Put}
+use Rattle.lu_words.specs.declared.uses.Using.{Using}
+use Rattle.lu_words.specs.Carried.{HandleFile, Asking, Unasked, Asked, Answered, Queued, Flight, Stage, Plain, Enqueued, Gets, Sizes, Work, Running}
 use Rattle.lu_words.specs.Words.{Entry, Tick, Begin, Stands, Queues, Flies, Heard, Told, Life, Line, line}
 use Rattle.lu_words.specs.Concerns.{concerns, only}
 use Rattle.lu_client_rows.specs.Advances.{enqueue_of}
+use Rattle.lu_client_rows.specs.WriteBack.{operation}
 use Rattle.lu_covered.specs.Calls.{Errand, names_errand, size_errand, lock_errand, errand_at, errand, operation_of, becomes, asks, asks_for, call_after, call_at, life_at}
 use Rattle.lu_covered.specs.Imports.{rest, queue_at, without_flight, flights_at}
 use Rattle.lu_covered.specs.Heads.{Head}
-use Rattle.lu_guards.proofs.Guards.{In, Noticed, Ending, Closes, NamesAskOk, SizeAskOk, LockAskOk, QueuesOk, SizesSoFar, EntryOk}
+use Rattle.lu_guards.proofs.Guards.{In, Noticed, Ending, Closes, NamesAskOk, SizeAskOk, LockAskOk, GetAskOk, QueuesOk, EntryOk}
 use Rattle.lu_guards.proofs.StoryGuards.{FliesOk, EntryOf}
 use Rattle.lu_guards.proofs.Grown.{Grown}
 use Rattle.lu_guards.proofs.Lists.{self, turn, in_append, in_filter}
@@ -33,15 +42,35 @@ use Rattle.lu_guards.proofs.ClientLines.{in_rest}
 
 -- ---- the calls and what they asked
 
+-- a read fetches a page under a lock in use
+pub record GetsUnder (r : Running) (t : ℕ) (o : Op) : Type 0 where
+  pub work : Work
+  pub stage : r.stage ≡ Gets work
+  pub under : Using
+  pub used : In under work.used
+  pub page : ℕ
+  pub of_target : t ≡ under.want.target.0
+  pub of_op : o ≡ op.Get under.want.resource under.lock.cookie page
+
+-- what a call asks where it stands
+abbrev pub AsksFor : Running → ℕ → Op → Type 0
+AsksFor r t o = (errand r ≡ Some (record { target = t; op = o })) ⊎ GetsUnder r t o
+
+-- a change is written back
+abbrev pub IsBack : Op → Type 0
+IsBack (op.Put resource cookie offset bytes) = Unit {0}
+IsBack (op.Cut resource cookie size) = Unit {0}
+IsBack _ = ⊥
+
 -- the call on a slot waits for the answer to that operation, of that target: it is what the call asks where it stands
 abbrev pub CallOf : List Line → (c target : ℕ) → Option ℕ → Op → Type 0
-CallOf past c t None o = ⊥
-CallOf past c t (Some slot) o = (r : Running) × (call_at c slot past ≡ Some r) × (r.asking ≡ Asked) × (errand r ≡ Some (record { target = t; op = o }))
+CallOf past c t None o = IsBack o
+CallOf past c t (Some slot) o = (r : Running) × (call_at c slot past ≡ Some r) × (r.asking ≡ Asked) × AsksFor r t o
 
 -- no two serve one slot
 abbrev pub Apart : List Queued → Type 0
 Apart [] = Unit {0}
-Apart (q ∷ queue) = ((g : Queued) → In g queue → g.slot ≡ q.slot → ⊥) × Apart queue
+Apart (q ∷ queue) = ((g : Queued) (slot : ℕ) → In g queue → g.slot ≡ Some slot → q.slot ≡ Some slot → ⊥) × Apart queue
 
 -- each call asks once, at one target; but in the turn that ends its life, where calls are told before what they asked is forgotten
 abbrev pub Asks : List Line → Type 0
@@ -49,10 +78,10 @@ Asks past =
     record {
       fly_calls : (c t : ℕ) (f : Flight) → (Ending past c → ⊥) → In f (flights_at c t past) → CallOf past c t f.slot f.op;
       queue_calls : (c t : ℕ) (q : Queued) → (Ending past c → ⊥) → In q (queue_at c t past) → CallOf past c t q.slot q.op;
-      fly_one : (c t u : ℕ) (f g : Flight) → (Ending past c → ⊥) → In f (flights_at c t past) → In g (flights_at c u past) → f.slot ≡ g.slot → (t ≡ u) × (f.xid ≡ g.xid);
-      queue_one : (c t u : ℕ) (q g : Queued) → (Ending past c → ⊥) → In q (queue_at c t past) → In g (queue_at c u past) → q.slot ≡ g.slot → t ≡ u;
+      fly_one : (c t u slot : ℕ) (f g : Flight) → (Ending past c → ⊥) → In f (flights_at c t past) → In g (flights_at c u past) → f.slot ≡ Some slot → g.slot ≡ Some slot → (t ≡ u) × (f.xid ≡ g.xid);
+      queue_one : (c t u slot : ℕ) (q g : Queued) → (Ending past c → ⊥) → In q (queue_at c t past) → In g (queue_at c u past) → q.slot ≡ Some slot → g.slot ≡ Some slot → t ≡ u;
       queue_apart : (c t : ℕ) → (Ending past c → ⊥) → Apart (queue_at c t past);
-      apart : (c t u : ℕ) (q : Queued) (f : Flight) → (Ending past c → ⊥) → In q (queue_at c t past) → In f (flights_at c u past) → q.slot ≡ f.slot → ⊥;
+      apart : (c t u slot : ℕ) (q : Queued) (f : Flight) → (Ending past c → ⊥) → In q (queue_at c t past) → In f (flights_at c u past) → q.slot ≡ Some slot → f.slot ≡ Some slot → ⊥;
     }
 
 -- ---- where a turn ends a life
@@ -68,10 +97,10 @@ asks_same past new b calls queues flights h =
     record {
       fly_calls = λ c t f o i. call c t f.slot f.op (h.fly_calls c t f (b c o) (old_flight c t f i));
       queue_calls = λ c t q o i. call c t q.slot q.op (h.queue_calls c t q (b c o) (old_queued c t q i));
-      fly_one = λ c t u f g o i j. h.fly_one c t u f g (b c o) (old_flight c t f i) (old_flight c u g j);
-      queue_one = λ c t u q g o i j. h.queue_one c t u q g (b c o) (old_queued c t q i) (old_queued c u g j);
+      fly_one = λ c t u s f g o i j. h.fly_one c t u s f g (b c o) (old_flight c t f i) (old_flight c u g j);
+      queue_one = λ c t u s q g o i j. h.queue_one c t u s q g (b c o) (old_queued c t q i) (old_queued c u g j);
       queue_apart = λ c t o. subst Apart (sym (queues c t)) (h.queue_apart c t (b c o));
-      apart = λ c t u q f o i j. h.apart c t u q f (b c o) (old_queued c t q i) (old_flight c u f j);
+      apart = λ c t u s q f o i j. h.apart c t u s q f (b c o) (old_queued c t q i) (old_flight c u f j);
     }
   where
     old_flight : (c t : ℕ) (f : Flight) → In f (flights_at c t new) → In f (flights_at c t past)
@@ -81,7 +110,7 @@ asks_same past new b calls queues flights h =
     old_queued c t q i = subst (λ (qs : List Queued). In q qs) (queues c t) i
 
     call : (c t : ℕ) (s : Option ℕ) (o : Op) → CallOf past c t s o → CallOf new c t s o
-    call c t None o k = absurd k
+    call c t None o k = k
     call c t (Some slot) o k = (k.0, calls c slot ∙ k.1, k.2, k.3)
 
 -- ---- what no call that waits is on
@@ -96,7 +125,7 @@ clear past d s c slot r n k a e q = n r (subst (λ v. call_at v s past ≡ Some 
 call_of_stays : (past : List Line) (stamp : Stamp) (d : ℕ) (e : Entry) (c t : ℕ) (s : Option ℕ) (o : Op)
     → ((slot : ℕ) (r : Running) → s ≡ Some slot → call_at c slot past ≡ Some r → r.asking ≡ Asked → c ≡ d → call_after slot (call_at c slot past) e ≡ call_at c slot past)
     → CallOf past c t s o → CallOf (line (turn stamp (Client d)) e ∷ past) c t s o
-call_of_stays past stamp d e c t None o f k = absurd k
+call_of_stays past stamp d e c t None o f k = k
 call_of_stays past stamp d e c t (Some slot) o f k = (k.0, call_stays past stamp d e c slot (f slot k.0 refl k.1 k.2) ∙ k.1, k.2, k.3)
 
 -- ---- a call begins
@@ -112,10 +141,10 @@ asks_begin past stamp d s running b n h =
     record {
       fly_calls = λ c t f o i. begin_call past stamp d s running n c t f.slot f.op (h.fly_calls c t f (b c o) i);
       queue_calls = λ c t q o i. begin_call past stamp d s running n c t q.slot q.op (h.queue_calls c t q (b c o) i);
-      fly_one = λ c t u f g o. h.fly_one c t u f g (b c o);
-      queue_one = λ c t u q g o. h.queue_one c t u q g (b c o);
+      fly_one = λ c t u s f g o. h.fly_one c t u s f g (b c o);
+      queue_one = λ c t u s q g o. h.queue_one c t u s q g (b c o);
       queue_apart = λ c t o. h.queue_apart c t (b c o);
-      apart = λ c t u q f o. h.apart c t u q f (b c o);
+      apart = λ c t u s q f o. h.apart c t u s q f (b c o);
     }
 
 -- ---- a call stands further on: it waits for no answer
@@ -131,10 +160,10 @@ asks_stands past stamp d s running b n h =
     record {
       fly_calls = λ c t f o i. stands_call past stamp d s running n c t f.slot f.op (h.fly_calls c t f (b c o) i);
       queue_calls = λ c t q o i. stands_call past stamp d s running n c t q.slot q.op (h.queue_calls c t q (b c o) i);
-      fly_one = λ c t u f g o. h.fly_one c t u f g (b c o);
-      queue_one = λ c t u q g o. h.queue_one c t u q g (b c o);
+      fly_one = λ c t u s f g o. h.fly_one c t u s f g (b c o);
+      queue_one = λ c t u s q g o. h.queue_one c t u s q g (b c o);
       queue_apart = λ c t o. h.queue_apart c t (b c o);
-      apart = λ c t u q f o. h.apart c t u q f (b c o);
+      apart = λ c t u s q f o. h.apart c t u s q f (b c o);
     }
 
 -- ---- a call is told
@@ -150,10 +179,10 @@ asks_told past stamp d s named answer work b n h =
     record {
       fly_calls = λ c t f o i. told_call past stamp d s named answer work n c t f.slot f.op (h.fly_calls c t f (b c o) i);
       queue_calls = λ c t q o i. told_call past stamp d s named answer work n c t q.slot q.op (h.queue_calls c t q (b c o) i);
-      fly_one = λ c t u f g o. h.fly_one c t u f g (b c o);
-      queue_one = λ c t u q g o. h.queue_one c t u q g (b c o);
+      fly_one = λ c t u s f g o. h.fly_one c t u s f g (b c o);
+      queue_one = λ c t u s q g o. h.queue_one c t u s q g (b c o);
       queue_apart = λ c t o. h.queue_apart c t (b c o);
-      apart = λ c t u q f o. h.apart c t u q f (b c o);
+      apart = λ c t u s q f o. h.apart c t u s q f (b c o);
     }
 
 -- its life ends: what the call asked is forgotten in this turn
@@ -163,10 +192,10 @@ asks_ended past stamp d s named answer work b ends h =
     record {
       fly_calls = λ c t f o i. other_call c t f.slot f.op o (h.fly_calls c t f (b c o) i);
       queue_calls = λ c t q o i. other_call c t q.slot q.op o (h.queue_calls c t q (b c o) i);
-      fly_one = λ c t u f g o. h.fly_one c t u f g (b c o);
-      queue_one = λ c t u q g o. h.queue_one c t u q g (b c o);
+      fly_one = λ c t u s f g o. h.fly_one c t u s f g (b c o);
+      queue_one = λ c t u s q g o. h.queue_one c t u s q g (b c o);
       queue_apart = λ c t o. h.queue_apart c t (b c o);
-      apart = λ c t u q f o. h.apart c t u q f (b c o);
+      apart = λ c t u s q f o. h.apart c t u s q f (b c o);
     }
   where
     told : Line
@@ -194,6 +223,10 @@ errand_same Plain q r c f = ap (λ (v : Call). names_errand (operation_of q.file
 errand_same (Sizes w) q r c f = refl
 errand_same (Enqueued w) q r c f = refl
 errand_same _ q r c f = refl
+
+asks_same_call : (t : ℕ) (o : Op) (r : Running) (a : Asking) → AsksFor r t o → AsksFor (record r { asking = a }) t o
+asks_same_call t o r a (inl e) = inl (errand_same r.stage (record r { asking = a }) r refl refl ∙ e)
+asks_same_call t o r a (inr g) = inr (record { work = g.work; stage = g.stage; under = g.under; used = g.used; page = g.page; of_target = g.of_target; of_op = g.of_op })
 
 -- a call on names asks the metadata target
 pub plain_errand : (r : Running) (t : ℕ) (o : Op) → r.stage ≡ Plain → errand r ≡ Some (record { target = t; op = o }) → (t ≡ 0) × (becomes r ≡ Some o)
@@ -230,6 +263,14 @@ pub record LocksFirst (w : Work) (t : ℕ) (o : Op) : Type 0 where
   pub of_target : t ≡ wanted.target.0
   pub of_op : o ≡ enqueue_of wanted
 
+-- it is to be on that range
+pub enqueue_is : (wanted : Use) (extent : Extent) → wanted.policy ≡ Range extent → enqueue_of wanted ≡ op.Enqueue wanted.resource wanted.mode extent
+enqueue_is wanted extent e = by wanted.policy e
+  where
+    by : (p : Policy) → p ≡ Range extent → ◌≡◌ {A = Op} (elim p [ Range x ↦ op.Enqueue wanted.resource wanted.mode x | Bits bits ↦ op.Size wanted.resource ]) (op.Enqueue wanted.resource wanted.mode extent)
+    by (Range x) q = let same : x ≡ extent = cc in ap (op.Enqueue wanted.resource wanted.mode) same
+    by (Bits bits) q = absurd (cc)
+
 pub locks_errand : (r : Running) (w : Work) (t : ℕ) (o : Op) → r.stage ≡ Enqueued w → errand r ≡ Some (record { target = t; op = o }) → LocksFirst w t o
 locks_errand r w t o locks e = by w.left refl (sym (ap (λ (v : Stage). errand_at v r) locks) ∙ e)
   where
@@ -239,7 +280,7 @@ locks_errand r w t o locks e = by w.left refl (sym (ap (λ (v : Stage). errand_a
         let same : record { target = wanted.target.0; op = enqueue_of wanted } ≡ record { target = t; op = o } = cc in
         record { wanted = wanted; left = left; first = is; of_target = ap (λ (v : Errand). v.target) (sym same); of_op = ap (λ (v : Errand). v.op) (sym same) }
 
--- no other call asks
+-- no other call asks but one that fetches a page
 pub stages_errand : (r : Running) (e : Errand) → errand r ≡ Some e → (r.stage ≡ Plain) ⊎ ((w : Work) × (r.stage ≡ Sizes w)) ⊎ ((w : Work) × (r.stage ≡ Enqueued w))
 stages_errand r e is = by r.stage refl is
   where
@@ -251,11 +292,11 @@ stages_errand r e is = by r.stage refl is
 
 -- ---- one more in the queue
 
-apart_snoc : (queue : List Queued) (q : Queued) → Apart queue → ((g : Queued) → In g queue → g.slot ≡ q.slot → ⊥) → Apart (queue ++ q ∷ [])
-apart_snoc [] q a n = ((λ g i e. absurd i), tt)
+apart_snoc : (queue : List Queued) (q : Queued) → Apart queue → ((g : Queued) (slot : ℕ) → In g queue → g.slot ≡ Some slot → q.slot ≡ Some slot → ⊥) → Apart (queue ++ q ∷ [])
+apart_snoc [] q a n = ((λ g s i e. absurd i), tt)
 apart_snoc (p ∷ queue) q a n = (
-  λ g i e. ⊎_elim (λ (j : In g queue). a.0 g j e) (λ (j : In g (q ∷ [])). ⊎_elim (λ (w : q ≡ g). n p (inl refl) (sym e ∙ ap (λ (k : Queued). k.slot) (sym w))) (λ (v : ⊥). v) j) (in_append g queue (q ∷ []) i),
-  apart_snoc queue q a.1 (λ g i. n g (inr i)),
+  λ g s i e k. ⊎_elim (λ (j : In g queue). a.0 g s j e k) (λ (j : In g (q ∷ [])). ⊎_elim (λ (w : q ≡ g). n p s (inl refl) k (ap (λ (x : Queued). x.slot) w ∙ e)) (λ (v : ⊥). v) j) (in_append g queue (q ∷ []) i),
+  apart_snoc queue q a.1 (λ g s i. n g s (inr i)),
 )
 
 module _ (past : List Line) (stamp : Stamp) (d v : ℕ) (q : Queued) (b : Before past (line (turn stamp (Client d)) (Queues v q) ∷ past)) (ok : QueuesOk past d v q) (h : Asks past) where
@@ -263,50 +304,69 @@ module _ (past : List Line) (stamp : Stamp) (d v : ℕ) (q : Queued) (b : Before
   queues = line (turn stamp (Client d)) (Queues v q) ∷ past
 
   -- no call that waits is on the slot that it serves
-  fresh : (c t : ℕ) (s : Option ℕ) (o : Op) → c ≡ d → s ≡ q.slot → CallOf past c t s o → ⊥
-  fresh c t None o e x k = absurd k
-  fresh c t (Some slot) o e x k =
-      let y : Some slot ≡ Some ok.slot = x ∙ ok.serves in
-      let z : slot ≡ ok.slot = cc in
-      let w : Some k.0 ≡ Some ok.running = sym k.1 ∙ ap (λ j. call_at j slot past) e ∙ ap (λ j. call_at d j past) z ∙ ok.call in
-      let same : k.0 ≡ ok.running = cc in
-      still ok.asks (ap (λ (r : Running). r.asking) (sym same) ∙ k.2)
+  fresh : (c t s : ℕ) (r : Running) → c ≡ d → q.slot ≡ Some s → call_at c s past ≡ Some r → r.asking ≡ Asked → ⊥
+  fresh c t s r e x k asked = by ok
     where
-      still : NamesAskOk past d v ok.running q.op ⊎ SizeAskOk v ok.running q.op ⊎ LockAskOk v ok.running q.op → ok.running.asking ≡ Asked → ⊥
-      still (inl a) out = let n : Unasked ≡ Asked = sym a.new ∙ out in absurd (cc)
-      still (inr (inl a)) out = a.still out
-      still (inr (inr a)) out = a.still out
+      still : (w : Running) → NamesAskOk past d v w q.op ⊎ SizeAskOk v w q.op ⊎ LockAskOk v w q.op ⊎ GetAskOk past d v w q.op → w.asking ≡ Asked → ⊥
+      still w (inl a) out = let n : Unasked ≡ Asked = sym a.new ∙ out in absurd (cc)
+      still w (inr (inl a)) out = a.still out
+      still w (inr (inr (inl a))) out = a.still out
+      still w (inr (inr (inr a))) out = a.still out
+
+      by : QueuesOk past d v q → ⊥
+      by (inl a) =
+          let y : Some s ≡ Some a.slot = sym x ∙ a.serves in
+          let z : s ≡ a.slot = cc in
+          let w : Some r ≡ Some a.running = sym k ∙ ap (λ j. call_at j s past) e ∙ ap (λ j. call_at d j past) z ∙ a.call in
+          let same : r ≡ a.running = cc in
+          still a.running a.asks (ap (λ (y : Running). y.asking) (sym same) ∙ asked)
+      by (inr a) = let y : Some s ≡ None = sym x ∙ a.serves in absurd (cc)
+
+  -- so nothing else that is asked serves it
+  serves_not : (c t s : ℕ) (u : Option ℕ) (o : Op) → c ≡ d → q.slot ≡ Some s → u ≡ Some s → CallOf past c t u o → ⊥
+  serves_not c t s u o e x y k = let w = subst (λ (n : Option ℕ). CallOf past c t n o) y k in fresh c t s w.0 e x w.1 w.2
 
   queue_call : (c t : ℕ) (s : Option ℕ) (o : Op) → CallOf past c t s o → CallOf queues c t s o
-  queue_call c t s o k = call_of_stays past stamp d (Queues v q) c t s o (λ slot r is w a e. asks_other q.slot slot Asked (call_at c slot past) (λ n. fresh c t s o e (is ∙ sym n) k)) k
-
-  call_new : call_at d ok.slot queues ≡ Some (record ok.running { asking = Asked })
-  call_new =
-      cond-true (nat_eq d d) (asks_for q.slot ok.slot Asked (call_at d ok.slot past)) (call_at d ok.slot past) (self d)
-      ∙ ap (λ (s : Option ℕ). asks_for s ok.slot Asked (call_at d ok.slot past)) ok.serves
-      ∙ cond-true (nat_eq ok.slot ok.slot) (asks Asked (call_at d ok.slot past)) (call_at d ok.slot past) (self ok.slot)
-      ∙ ap (λ (r : Option Running). asks Asked r) ok.call
-
-  asks_it : errand (record ok.running { asking = Asked }) ≡ Some (record { target = v; op = q.op })
-  asks_it = errand_same ok.running.stage (record ok.running { asking = Asked }) ok.running refl refl ∙ by ok.asks
-    where
-      by : NamesAskOk past d v ok.running q.op ⊎ SizeAskOk v ok.running q.op ⊎ LockAskOk v ok.running q.op → errand ok.running ≡ Some (record { target = v; op = q.op })
-      by (inl a) = ap (λ (s : Stage). errand_at s ok.running) a.good ∙ ap names_errand a.becomes ∙ ap (λ (t : ℕ). Some (record { target = t; op = q.op })) (sym a.names)
-      by (inr (inl a)) =
-          ap (λ (s : Stage). errand_at s ok.running) a.stage ∙ ap size_errand a.first
-          ∙ ap (λ (t : ℕ). Some (record { target = t; op = op.Size a.wanted.resource })) (sym a.of_target) ∙ ap (λ (o : Op). Some (record { target = v; op = o })) (sym a.of_op)
-      by (inr (inr a)) =
-          ap (λ (s : Stage). errand_at s ok.running) a.stage ∙ ap lock_errand a.first
-          ∙ ap (λ (t : ℕ). Some (record { target = t; op = enqueue_of a.wanted })) (sym a.of_target) ∙ ap (λ (o : Op). Some (record { target = v; op = o })) (sym a.is)
+  queue_call c t s o k = call_of_stays past stamp d (Queues v q) c t s o (λ slot r is w a e. asks_other q.slot slot Asked (call_at c slot past) (λ n. fresh c t slot r e n w a)) k
 
   mine : CallOf queues d v q.slot q.op
-  mine = subst (λ (s : Option ℕ). CallOf queues d v s q.op) (sym ok.serves) (record ok.running { asking = Asked }, call_new, refl, asks_it)
+  mine = by ok
+    where
+      back : (h : HeldLock) (change : Flush) → IsBack (operation h.lock.resource h.lock.cookie change)
+      back h (Put offset bytes) = tt
+      back h (Cut size) = tt
+
+      asks_it : (r : Running) → NamesAskOk past d v r q.op ⊎ SizeAskOk v r q.op ⊎ LockAskOk v r q.op ⊎ GetAskOk past d v r q.op → AsksFor r v q.op
+      asks_it r (inl a) = inl (ap (λ (s : Stage). errand_at s r) a.good ∙ ap names_errand a.becomes ∙ ap (λ (t : ℕ). Some (record { target = t; op = q.op })) (sym a.names))
+      asks_it r (inr (inl a)) =
+          inl (ap (λ (s : Stage). errand_at s r) a.stage ∙ ap size_errand a.first
+          ∙ ap (λ (t : ℕ). Some (record { target = t; op = op.Size a.wanted.resource })) (sym a.of_target) ∙ ap (λ (o : Op). Some (record { target = v; op = o })) (sym a.of_op))
+      asks_it r (inr (inr (inl a))) =
+          inl (ap (λ (s : Stage). errand_at s r) a.stage ∙ ap lock_errand a.first
+          ∙ ap (λ (t : ℕ). Some (record { target = t; op = enqueue_of a.wanted })) (sym a.of_target)
+          ∙ ap (λ (o : Op). Some (record { target = v; op = o })) (enqueue_is a.wanted a.extent a.policy ∙ sym a.of_op))
+      asks_it r (inr (inr (inr a))) =
+          inr (record { work = a.work; stage = a.stage; under = a.page.under; used = a.used; page = a.page.page; of_target = a.of_target; of_op = a.of_op })
+
+      by : QueuesOk past d v q → CallOf queues d v q.slot q.op
+      by (inl a) = subst (λ (s : Option ℕ). CallOf queues d v s q.op) (sym a.serves) (record a.running { asking = Asked }, new, refl, asks_same_call v q.op a.running Asked (asks_it a.running a.asks))
+        where
+          new : call_at d a.slot queues ≡ Some (record a.running { asking = Asked })
+          new =
+              cond-true (nat_eq d d) (asks_for q.slot a.slot Asked (call_at d a.slot past)) (call_at d a.slot past) (self d)
+              ∙ ap (λ (s : Option ℕ). asks_for s a.slot Asked (call_at d a.slot past)) a.serves
+              ∙ cond-true (nat_eq a.slot a.slot) (asks Asked (call_at d a.slot past)) (call_at d a.slot past) (self a.slot)
+              ∙ ap (λ (r : Option Running). asks Asked r) a.call
+      by (inr a) = subst (λ (s : Option ℕ). CallOf queues d v s q.op) (sym a.serves) (subst IsBack (sym a.of_op) (back a.holding a.change))
 
   queue_in : (c t : ℕ) (g : Queued) → In g (queue_at c t queues) → ((c ≡ d) × (t ≡ v) × (q ≡ g)) ⊎ In g (queue_at c t past)
   queue_in c t g =
       cond_both (nat_eq c d && nat_eq t v) (queue_at c t past ++ q ∷ []) (queue_at c t past) (λ (qs : List Queued). In g qs → ((c ≡ d) × (t ≡ v) × (q ≡ g)) ⊎ In g (queue_at c t past))
       (λ e i. ⊎_elim (λ (j : In g (queue_at c t past)). inr j) (λ (j : In g (q ∷ [])). ⊎_elim (λ (w : q ≡ g). let o = own_import c d t v e in inl (o.0, o.1, w)) (λ (w : ⊥). absurd w) j) (in_append g (queue_at c t past) (q ∷ []) i))
       (λ e i. inr i)
+
+  own_slot : (g : Queued) (s : ℕ) → q ≡ g → g.slot ≡ Some s → q.slot ≡ Some s
+  own_slot g s e x = ap (λ (w : Queued). w.slot) e ∙ x
 
   asks_queues : Asks queues
   asks_queues =
@@ -316,23 +376,23 @@ module _ (past : List Line) (stamp : Stamp) (d v : ℕ) (q : Queued) (b : Before
             (λ (p : (c ≡ d) × (t ≡ v) × (q ≡ g)). subst (λ (w : Queued). CallOf queues c t w.slot w.op) p.2 (subst (λ w. CallOf queues c w q.slot q.op) (sym p.1) (subst (λ w. CallOf queues w v q.slot q.op) (sym p.0) mine)))
             (λ (j : In g (queue_at c t past)). queue_call c t g.slot g.op (h.queue_calls c t g (b c n) j))
             (queue_in c t g i);
-        fly_one = λ c t u f g n. h.fly_one c t u f g (b c n);
-        queue_one = λ c t u g k n i j e. ⊎_elim
+        fly_one = λ c t u s f g n. h.fly_one c t u s f g (b c n);
+        queue_one = λ c t u s g k n i j x y. ⊎_elim
             (λ (p : (c ≡ d) × (t ≡ v) × (q ≡ g)). ⊎_elim
             (λ (r : (c ≡ d) × (u ≡ v) × (q ≡ k)). p.1 ∙ sym r.1)
-            (λ (y : In k (queue_at c u past)). absurd (fresh c u k.slot k.op p.0 (sym e ∙ ap (λ (w : Queued). w.slot) (sym p.2)) (h.queue_calls c u k (b c n) y)))
+            (λ (w : In k (queue_at c u past)). absurd (serves_not c u s k.slot k.op p.0 (own_slot g s p.2 x) y (h.queue_calls c u k (b c n) w)))
             (queue_in c u k j))
-            (λ (x : In g (queue_at c t past)). ⊎_elim
-            (λ (r : (c ≡ d) × (u ≡ v) × (q ≡ k)). absurd (fresh c t g.slot g.op r.0 (e ∙ ap (λ (w : Queued). w.slot) (sym r.2)) (h.queue_calls c t g (b c n) x)))
-            (λ (y : In k (queue_at c u past)). h.queue_one c t u g k (b c n) x y e)
+            (λ (w : In g (queue_at c t past)). ⊎_elim
+            (λ (r : (c ≡ d) × (u ≡ v) × (q ≡ k)). absurd (serves_not c t s g.slot g.op r.0 (own_slot k s r.2 y) x (h.queue_calls c t g (b c n) w)))
+            (λ (z : In k (queue_at c u past)). h.queue_one c t u s g k (b c n) w z x y)
             (queue_in c u k j))
             (queue_in c t g i);
         queue_apart = λ c t n. cond_both (nat_eq c d && nat_eq t v) (queue_at c t past ++ q ∷ []) (queue_at c t past) Apart
-            (λ o. apart_snoc (queue_at c t past) q (h.queue_apart c t (b c n)) (λ g i e. fresh c t g.slot g.op (own_import c d t v o).0 e (h.queue_calls c t g (b c n) i)))
+            (λ o. apart_snoc (queue_at c t past) q (h.queue_apart c t (b c n)) (λ g s i x y. serves_not c t s g.slot g.op (own_import c d t v o).0 y x (h.queue_calls c t g (b c n) i)))
             (λ o. h.queue_apart c t (b c n));
-        apart = λ c t u g f n i j e. ⊎_elim
-            (λ (p : (c ≡ d) × (t ≡ v) × (q ≡ g)). fresh c u f.slot f.op p.0 (sym e ∙ ap (λ (w : Queued). w.slot) (sym p.2)) (h.fly_calls c u f (b c n) j))
-            (λ (k : In g (queue_at c t past)). h.apart c t u g f (b c n) k j e)
+        apart = λ c t u s g f n i j x y. ⊎_elim
+            (λ (p : (c ≡ d) × (t ≡ v) × (q ≡ g)). serves_not c u s f.slot f.op p.0 (own_slot g s p.2 x) y (h.fly_calls c u f (b c n) j))
+            (λ (k : In g (queue_at c t past)). h.apart c t u s g f (b c n) k j x y)
             (queue_in c t g i);
       }
 
@@ -373,18 +433,21 @@ module _ (past : List Line) (stamp : Stamp) (d v : ℕ) (f : Flight) (b : Before
   here c e n = b d (subst (λ w. Ending flies w → ⊥) e n)
 
   -- the front's slot is no other's
-  front_apart : (c t : ℕ) (q : Queued) → (Ending flies c → ⊥) → In q (queue_at c t flies) → c ≡ d → q.slot ≡ f.slot → ⊥
-  front_apart c t q n i e s =
+  front_apart : (c t s : ℕ) (q : Queued) → (Ending flies c → ⊥) → In q (queue_at c t flies) → c ≡ d → q.slot ≡ Some s → f.slot ≡ Some s → ⊥
+  front_apart c t s q n i e x y =
       cond_both (nat_eq c d && nat_eq t v) (rest (queue_at c t past)) (queue_at c t past) (λ (qs : List Queued). In q qs → ⊥)
       (λ o j. later (queue_at d v past) (h.queue_apart d v (here c e n)) ok.queue (subst (λ w. In q (rest (queue_at d w past))) (own_import c d t v o).1 (subst (λ w. In q (rest (queue_at w t past))) e j)))
-      (λ o j. other_import c d t v o e (h.queue_one d t v q ok.front (here c e n) (subst (λ w. In q (queue_at w t past)) e j) front_in (s ∙ ok.slot)))
+      (λ o j. other_import c d t v o e (h.queue_one d t v s q ok.front (here c e n) (subst (λ w. In q (queue_at w t past)) e j) front_in x (sym ok.slot ∙ y)))
       i
     where
       later : (qs : List Queued) → Apart qs → qs ≡ ok.front ∷ ok.more → In q (rest qs) → ⊥
-      later qs a z j = let w = subst Apart z a in w.0 q (subst (λ k. In q (rest k)) z j) (s ∙ ok.slot)
+      later qs a z j = let w = subst Apart z a in w.0 q s (subst (λ k. In q (rest k)) z j) x (sym ok.slot ∙ y)
 
-  clash : (c t : ℕ) (k : Flight) → (Ending flies c → ⊥) → In k (flights_at c t past) → c ≡ d → k.slot ≡ f.slot → ⊥
-  clash c t k n i e s = h.apart d v t ok.front k (here c e n) front_in (subst (λ w. In k (flights_at w t past)) e i) (sym (s ∙ ok.slot))
+  clash : (c t s : ℕ) (k : Flight) → (Ending flies c → ⊥) → In k (flights_at c t past) → c ≡ d → k.slot ≡ Some s → f.slot ≡ Some s → ⊥
+  clash c t s k n i e x y = h.apart d v t s ok.front k (here c e n) front_in (subst (λ w. In k (flights_at w t past)) e i) (sym ok.slot ∙ y) x
+
+  flight_slot : (g : Flight) (s : ℕ) → f ≡ g → g.slot ≡ Some s → f.slot ≡ Some s
+  flight_slot g s e x = ap (λ (w : Flight). w.slot) e ∙ x
 
   mine_flies : (Ending flies d → ⊥) → CallOf flies d v f.slot f.op
   mine_flies n = subst (λ (s : Option ℕ). CallOf flies d v s f.op) (sym ok.slot) (subst (λ (o : Op). CallOf flies d v ok.front.slot o) (sym ok.op) (h.queue_calls d v ok.front (b d n) front_in))
@@ -399,21 +462,21 @@ module _ (past : List Line) (stamp : Stamp) (d v : ℕ) (f : Flight) (b : Before
             (λ (j : In g (flights_at c t past)). h.fly_calls c t g (b c n) j)
             (fly_in c t g i);
         queue_calls = λ c t q n i. h.queue_calls c t q (b c n) (rest_in c t q i);
-        fly_one = λ c t u g k n i j e. ⊎_elim
+        fly_one = λ c t u s g k n i j x y. ⊎_elim
             (λ (p : (c ≡ d) × (t ≡ v) × (f ≡ g)). ⊎_elim
             (λ (q : (c ≡ d) × (u ≡ v) × (f ≡ k)). (p.1 ∙ sym q.1, ap (λ (w : Flight). w.xid) (sym p.2 ∙ q.2)))
-            (λ (q : In k (flights_at c u past)). absurd (clash c u k n q p.0 (sym e ∙ ap (λ (w : Flight). w.slot) (sym p.2))))
+            (λ (q : In k (flights_at c u past)). absurd (clash c u s k n q p.0 y (flight_slot g s p.2 x)))
             (fly_in c u k j))
             (λ (p : In g (flights_at c t past)). ⊎_elim
-            (λ (q : (c ≡ d) × (u ≡ v) × (f ≡ k)). absurd (clash c t g n p q.0 (e ∙ ap (λ (w : Flight). w.slot) (sym q.2))))
-            (λ (q : In k (flights_at c u past)). h.fly_one c t u g k (b c n) p q e)
+            (λ (q : (c ≡ d) × (u ≡ v) × (f ≡ k)). absurd (clash c t s g n p q.0 x (flight_slot k s q.2 y)))
+            (λ (q : In k (flights_at c u past)). h.fly_one c t u s g k (b c n) p q x y)
             (fly_in c u k j))
             (fly_in c t g i);
-        queue_one = λ c t u q g n i j e. h.queue_one c t u q g (b c n) (rest_in c t q i) (rest_in c u g j) e;
+        queue_one = λ c t u s q g n i j. h.queue_one c t u s q g (b c n) (rest_in c t q i) (rest_in c u g j);
         queue_apart = λ c t n. cond_both (nat_eq c d && nat_eq t v) (rest (queue_at c t past)) (queue_at c t past) Apart (λ o. apart_rest (queue_at c t past) (h.queue_apart c t (b c n))) (λ o. h.queue_apart c t (b c n));
-        apart = λ c t u q g n i j e. ⊎_elim
-            (λ (p : (c ≡ d) × (u ≡ v) × (f ≡ g)). front_apart c t q n i p.0 (e ∙ ap (λ (w : Flight). w.slot) (sym p.2)))
-            (λ (k : In g (flights_at c u past)). h.apart c t u q g (b c n) (rest_in c t q i) k e)
+        apart = λ c t u s q g n i j x y. ⊎_elim
+            (λ (p : (c ≡ d) × (u ≡ v) × (f ≡ g)). front_apart c t s q n i p.0 x (flight_slot g s p.2 y))
+            (λ (k : In g (flights_at c u past)). h.apart c t u s q g (b c n) (rest_in c t q i) k x y)
             (fly_in c u g j);
       }
 
@@ -430,28 +493,28 @@ module _ (past : List Line) (stamp : Stamp) (d v : ℕ) (f : Flight) (r : ReplyT
   there c e n = b d (subst (λ w. Ending heard w → ⊥) e n)
 
   -- no other is for the call that was answered
-  gone : (c t : ℕ) (g : Flight) → (Ending heard c → ⊥) → In g (flights_at c t heard) → c ≡ d → g.slot ≡ f.slot → ⊥
-  gone c t g n i e s =
+  gone : (c t s : ℕ) (g : Flight) → (Ending heard c → ⊥) → In g (flights_at c t heard) → c ≡ d → g.slot ≡ Some s → f.slot ≡ Some s → ⊥
+  gone c t s g n i e x y =
       cond_both (nat_eq c d && nat_eq t v) (without_flight f.xid (flights_at c t past)) (flights_at c t past) (λ (fs : List Flight). In g fs → ⊥)
       (λ o j. let k = in_filter (λ (w : Flight). not (nat_eq w.xid f.xid)) g (flights_at c t past) j in let x = (one k.0).1 in let y = not-true (nat_eq g.xid f.xid) k.1 in grind (arith, nat_tests))
       (λ o j. other_import c d t v o e (one j).0)
       i
     where
       one : In g (flights_at c t past) → (t ≡ v) × (g.xid ≡ f.xid)
-      one j = h.fly_one d t v g f (there c e n) (subst (λ w. In g (flights_at w t past)) e j) flying s
+      one j = h.fly_one d t v s g f (there c e n) (subst (λ w. In g (flights_at w t past)) e j) flying x y
 
-  heard_call : (c t : ℕ) (s : Option ℕ) (o : Op) → (c ≡ d → s ≡ f.slot → ⊥) → CallOf past c t s o → CallOf heard c t s o
-  heard_call c t s o n = call_of_stays past stamp d (Heard v f r) c t s o (λ slot q is k a e. asks_other f.slot slot (Answered v r) (call_at c slot past) (λ w. n e (is ∙ sym w)))
+  heard_call : (c t : ℕ) (s : Option ℕ) (o : Op) → ((slot : ℕ) → c ≡ d → s ≡ Some slot → f.slot ≡ Some slot → ⊥) → CallOf past c t s o → CallOf heard c t s o
+  heard_call c t s o n = call_of_stays past stamp d (Heard v f r) c t s o (λ slot q is k a e. asks_other f.slot slot (Answered v r) (call_at c slot past) (λ w. n slot e is w))
 
   asks_heard : Asks heard
   asks_heard =
       record {
-        fly_calls = λ c t g n i. heard_call c t g.slot g.op (λ e s. gone c t g n i e s) (h.fly_calls c t g (b c n) (less c t g i));
-        queue_calls = λ c t q n i. heard_call c t q.slot q.op (λ e s. h.apart d t v q f (there c e n) (subst (λ w. In q (queue_at w t past)) e i) flying s) (h.queue_calls c t q (b c n) i);
-        fly_one = λ c t u g k n i j. h.fly_one c t u g k (b c n) (less c t g i) (less c u k j);
-        queue_one = λ c t u q g n. h.queue_one c t u q g (b c n);
+        fly_calls = λ c t g n i. heard_call c t g.slot g.op (λ s e x y. gone c t s g n i e x y) (h.fly_calls c t g (b c n) (less c t g i));
+        queue_calls = λ c t q n i. heard_call c t q.slot q.op (λ s e x y. h.apart d t v s q f (there c e n) (subst (λ w. In q (queue_at w t past)) e i) flying x y) (h.queue_calls c t q (b c n) i);
+        fly_one = λ c t u s g k n i j. h.fly_one c t u s g k (b c n) (less c t g i) (less c u k j);
+        queue_one = λ c t u s q g n. h.queue_one c t u s q g (b c n);
         queue_apart = λ c t n. h.queue_apart c t (b c n);
-        apart = λ c t u q g n i j. h.apart c t u q g (b c n) i (less c u g j);
+        apart = λ c t u s q g n i j. h.apart c t u s q g (b c n) i (less c u g j);
       }
 
 -- ---- a new life has asked nothing
@@ -481,10 +544,10 @@ module _ (past : List Line) (stamp : Stamp) (d : ℕ) (new : Who) (closes : Clos
       record {
         fly_calls = λ c t f n i. let k = fly_old c t f n i in h.fly_calls c t f k.1 k.0;
         queue_calls = λ c t q n i. let k = queue_old c t q n i in h.queue_calls c t q k.1 k.0;
-        fly_one = λ c t u f g n i j. let k = fly_old c t f n i in h.fly_one c t u f g k.1 k.0 (fly_old c u g n j).0;
-        queue_one = λ c t u q g n i j. let k = queue_old c t q n i in h.queue_one c t u q g k.1 k.0 (queue_old c u g n j).0;
+        fly_one = λ c t u s f g n i j. let k = fly_old c t f n i in h.fly_one c t u s f g k.1 k.0 (fly_old c u g n j).0;
+        queue_one = λ c t u s q g n i j. let k = queue_old c t q n i in h.queue_one c t u s q g k.1 k.0 (queue_old c u g n j).0;
         queue_apart = λ c t n. cond_both (nat_eq c d && true) [] (queue_at c t past) Apart (λ o. tt) (λ o. h.queue_apart c t (other c o n));
-        apart = λ c t u q f n i j. let k = queue_old c t q n i in h.apart c t u q f k.1 k.0 (fly_old c u f n j).0;
+        apart = λ c t u s q f n i j. let k = queue_old c t q n i in h.apart c t u s q f k.1 k.0 (fly_old c u f n j).0;
       }
 
 -- ---- each line
@@ -499,11 +562,6 @@ new_not q new a = absurd (cc)
 answered_not : (q : Running) (t : ℕ) (r : ReplyTo) → q.asking ≡ Answered t r → q.asking ≡ Asked → ⊥
 answered_not q t r k a = absurd (cc)
 
--- a glimpse goes on as it begins, or once it is answered
-sizing_not : (past : List Line) (at : At) (q : Running) (sizes : List ℕ) → SizesSoFar past at q sizes → q.asking ≡ Asked → ⊥
-sizing_not past at q sizes (inl k) = new_not q k.new
-sizing_not past at q sizes (inr k) = answered_not q k.target k.reply k.answered
-
 module _ (head : Head) (past : List Line) (stamp : Stamp) (c s : ℕ) (named : At) (answer : Answer) (work : Option Work) (g : Grown head past) (b : Before past (line (turn stamp (Client c)) (Told s named answer work) ∷ past)) (h : Asks past) where
   abbrev told : List Line
   told = line (turn stamp (Client c)) (Told s named answer work) ∷ past
@@ -516,10 +574,11 @@ module _ (head : Head) (past : List Line) (stamp : Stamp) (c s : ℕ) (named : A
   keeps_told (inr (inl ok)) = quiet ok.running ok.call (new_not ok.running ok.new)
   keeps_told (inr (inr (inl ok))) = asks_ended past stamp c s named answer work b ok.notice h
   keeps_told (inr (inr (inr (inl ok)))) = quiet ok.running ok.call (new_not ok.running (bad_unasked head past g c s ok.running ok.call ok.bad))
-  keeps_told (inr (inr (inr (inr (inl ok))))) = quiet ok.running ok.call (sizing_not past (turn stamp (Client c)) ok.running ok.sizes ok.so_far)
-  keeps_told (inr (inr (inr (inr (inr (inl ok)))))) = quiet ok.running ok.call (new_not ok.running ok.new)
+  keeps_told (inr (inr (inr (inr (inl ok))))) = quiet ok.running ok.call ok.still
+  keeps_told (inr (inr (inr (inr (inr (inl ok)))))) = quiet ok.running ok.call ok.still
   keeps_told (inr (inr (inr (inr (inr (inr (inl ok))))))) = quiet ok.running ok.call ok.still
-  keeps_told (inr (inr (inr (inr (inr (inr (inr ok))))))) = quiet ok.running ok.call ok.still
+  keeps_told (inr (inr (inr (inr (inr (inr (inr (inl ok)))))))) = quiet ok.running ok.call ok.still
+  keeps_told (inr (inr (inr (inr (inr (inr (inr (inr ok)))))))) = quiet ok.running ok.call ok.still
 
 still : (past : List Line) (stamp : Stamp) (node : Node) (e : Entry) → Closes past (turn stamp node) → ((c : ℕ) → life_at c past ≡ life_at c (line (turn stamp node) e ∷ past)) → Before past (line (turn stamp node) e ∷ past)
 still past stamp node e closes same c n k = n (ending_more past stamp node e c closes (same c) k)
@@ -545,9 +604,9 @@ asks_grown head [] g =
     record {
       fly_calls = λ c t f n i. absurd i;
       queue_calls = λ c t q n i. absurd i;
-      fly_one = λ c t u f k n i. absurd i;
-      queue_one = λ c t u q k n i. absurd i;
+      fly_one = λ c t u s f k n i. absurd i;
+      queue_one = λ c t u s q k n i. absurd i;
       queue_apart = λ c t n. tt;
-      apart = λ c t u q f n i. absurd i;
+      apart = λ c t u s q f n i. absurd i;
     }
 asks_grown head (l ∷ past) g = keeps_asks head past l.at.stamp l.at.node l.entry g.1 g.0.closes g.0.ok g.0.of (asks_grown head past g.1)

@@ -6,15 +6,16 @@ use Rattle.lu_base.specs.declared.ids.At.{At}
 use Rattle.lu_base.specs.declared.ids.Node.{Node}
 use Rattle.lu_base.specs.declared.ids.Node.TheVariants.{Client, Target}
 use Rattle.lu_base.specs.declared.ids.Stamp.{Stamp}
-use Rattle.lu_base.specs.declared.locks.Lock.{Lock}
 use Rattle.lu_held.specs.declared.locks.Use.{Use}
 use Rattle.lu_held.specs.declared.names.LockName.{LockName}
-use Rattle.lu_words.specs.Carried.{Asking, Unasked, Asked, Answered, Stage, Bad, Enqueued, Came as CameOf, Sizes, Work, Running}
+use Rattle.lu_words.specs.Carried.{Asking, Unasked, Asked, Answered, Stage, Bad, Looks, Enqueued, Waits, Came as CameOf, Forgotten, Gets, Flushing, Sizes, Running}
 use Rattle.lu_words.specs.Words.{Entry, Tick, Begin, Stands, Queues, Heard, Told, Line, line, is_client}
 use Rattle.lu_words.specs.Fields.{on}
 use Rattle.lu_covered.specs.Heads.{Head}
-use Rattle.lu_covered.specs.Calls.{begun, asks, asks_for, reads_call, call_after, call_at}
-use Rattle.lu_guards.proofs.Guards.{In, Later, Begins, Unless, SizesStand, LockStand, StatStand, StandsOk, HadLock, used_in, HadUsed, Starts, OwesBegun, Owes, EntryOk}
+use Rattle.lu_covered.specs.Calls.{begun, asks, asks_for, reads_call, call_after, call_at, life_at}
+use Rattle.lu_trace.specs.WellFormed.{IsCall}
+use Rattle.lu_client_rows.specs.Messages.{waiting_lock}
+use Rattle.lu_guards.proofs.Guards.{In, Later, Begins, Unless, LeftSize, SizesStand, LockStand, StatStand, GetStand, FlushStand, MovedStand, StandsOk, HadLock, used_in, HadUsed, Starts, OwesBegun, Owes, EntryOk}
 use Rattle.lu_guards.proofs.Grown.{Grown}
 use Rattle.lu_guards.proofs.Lists.{self, turn}
 
@@ -51,6 +52,7 @@ pub record Began (past : List Line) (now : At) (e : Entry) (c slot : ℕ) (r : R
   pub at : r.at ≡ now
   pub asking : r.asking ≡ Unasked
   pub begins : Begins c past r
+  pub limits : IsCall r.call
   pub newest : JustBegan (line now e ∷ past) c slot r
 
 -- a request for it was queued or heard
@@ -77,8 +79,17 @@ pub record Stood (past : List Line) (now : At) (c slot : ℕ) (r : Running) : Ty
   pub good : r.stage ≡ Bad → ⊥
   pub stands : StandsOk past now c slot r
 
+-- but for a line that says where a call stands
+abbrev pub Kept : List Line → At → Node → Entry → ℕ → ℕ → Running → Type 0
+Kept past at node e c slot r = (call_at c slot past ≡ Some r) ⊎ (Began past at e c slot r ⊎ Touched past node e c slot r)
+
 abbrev pub Came : List Line → At → Node → Entry → ℕ → ℕ → Running → Type 0
 Came past at node e c slot r = (call_at c slot past ≡ Some r) ⊎ (Began past at e c slot r ⊎ (Touched past node e c slot r ⊎ Stood past at c slot r))
+
+came : (past : List Line) (at : At) (node : Node) (e : Entry) (c slot : ℕ) (r : Running) → Kept past at node e c slot r → Came past at node e c slot r
+came past at node e c slot r (inl k) = inl k
+came past at node e c slot r (inr (inl k)) = inr (inl k)
+came past at node e c slot r (inr (inr k)) = inr (inr (inl k))
 
 some_is : (q r : Running) → Some q ≡ Some r → q ≡ r
 some_is q r e = cc
@@ -115,15 +126,23 @@ touched past node e served asking c slot r how a =
     }
 
 -- where it stands then
-good_stage : {X Y : Type 0} (w : Work) (stage : Stage) → ((stage ≡ Enqueued w) × X) ⊎ ((lock : Lock) × (stage ≡ CameOf w lock) × Y) → stage ≡ Bad → ⊥
-good_stage w stage (inl k) bad = let e : Enqueued w ≡ Bad = sym k.0 ∙ bad in cc
-good_stage w stage (inr k) bad = let e : CameOf w k.0 ≡ Bad = sym k.1 ∙ bad in cc
+moved_good : (past : List Line) (now : At) (c : ℕ) (q : Running) (stage : Stage) → MovedStand past now c q stage → stage ≡ Bad → ⊥
+moved_good past now c q stage (inl h) bad = let e : CameOf h.work h.lock ≡ Bad = sym h.is ∙ bad in cc
+moved_good past now c q stage (inr (inl h)) bad = let e : Waits h.work h.wanted.target (waiting_lock (life_at c past) h.cookie h.wanted) false ≡ Bad = sym h.is ∙ bad in cc
+moved_good past now c q stage (inr (inr (inl h))) bad = let e : Waits h.work h.target h.lock true ≡ Bad = sym h.is ∙ bad in cc
+moved_good past now c q stage (inr (inr (inr (inl h)))) bad = let e : Forgotten h.work ≡ Bad = sym h.is ∙ bad in cc
+moved_good past now c q stage (inr (inr (inr (inr h)))) bad = let e : Looks h.work ≡ Bad = sym h.is ∙ bad in cc
 
-stands_good : (past : List Line) (now : At) (c : ℕ) (q : Running) (stage : Stage) (pins : List LockName) → SizesStand past now q stage pins ⊎ LockStand past c q stage ⊎ StatStand past now c q stage pins
+pub stands_good : (past : List Line) (now : At) (c : ℕ) (q : Running) (stage : Stage) (pins : List LockName)
+    → SizesStand past now q stage pins ⊎ LockStand past c q stage ⊎ StatStand past now c q stage pins ⊎ GetStand past c q stage pins ⊎ FlushStand past c q stage pins ⊎ ((pins ≡ q.pins) × MovedStand past now c q stage)
     → stage ≡ Bad → ⊥
-stands_good past now c q stage pins (inl h) bad = let e : Sizes h.work ≡ Bad = sym h.is ∙ bad in cc
-stands_good past now c q stage pins (inr (inl h)) bad = good_stage h.work stage h.is bad
-stands_good past now c q stage pins (inr (inr h)) bad = good_stage h.work stage h.is bad
+stands_good past now c q stage pins (inl h) bad =
+    ⊎_elim (λ (k : stage ≡ Sizes h.work). let e : Sizes h.work ≡ Bad = sym k ∙ bad in cc) (λ (k : (stage ≡ Enqueued h.work) × LeftSize past now q h.sizes). let e : Enqueued h.work ≡ Bad = sym k.0 ∙ bad in cc) h.is
+stands_good past now c q stage pins (inr (inl h)) bad = let e : Enqueued h.work ≡ Bad = sym h.is ∙ bad in cc
+stands_good past now c q stage pins (inr (inr (inl h))) bad = let e : Enqueued h.work ≡ Bad = sym h.is ∙ bad in cc
+stands_good past now c q stage pins (inr (inr (inr (inl h)))) bad = let e : Gets h.work ≡ Bad = sym h.is ∙ bad in cc
+stands_good past now c q stage pins (inr (inr (inr (inr (inl h))))) bad = let e : Flushing h.stripe ≡ Bad = sym h.is ∙ bad in cc
+stands_good past now c q stage pins (inr (inr (inr (inr (inr h))))) bad = moved_good past now c q stage h.1 bad
 
 stood : (past : List Line) (now : At) (c slot : ℕ) (r : Running) → now.node ≡ Client c → StandsOk past now c slot r → Stood past now c slot r
 stood past now c slot r own ok =
@@ -140,10 +159,14 @@ stood past now c slot r own ok =
       stands = ok;
     }
 
-pub call_cases : (past : List Line) (stamp : Stamp) (node : Node) (e : Entry) → EntryOk past (turn stamp node) node e → (c slot : ℕ) (r : Running) → call_at c slot (line (turn stamp node) e ∷ past) ≡ Some r → Came past (turn stamp node) node e c slot r
-call_cases past stamp (Client d) (Begin s running) ok c slot r =
-    cond_both (nat_eq c d) (if nat_eq s slot then Some running else call_at c slot past) (call_at c slot past) (λ v. v ≡ Some r → Came past (turn stamp (Client d)) (Client d) (Begin s running) c slot r)
-    (λ t. cond_both (nat_eq s slot) (Some running) (call_at c slot past) (λ v. v ≡ Some r → Came past (turn stamp (Client d)) (Client d) (Begin s running) c slot r)
+abbrev pub IsNoStand : Entry → Type 0
+IsNoStand (Stands slot running) = ⊥
+IsNoStand _ = Unit {0}
+
+pub kept_cases : (past : List Line) (stamp : Stamp) (node : Node) (e : Entry) → EntryOk past (turn stamp node) node e → IsNoStand e → (c slot : ℕ) (r : Running) → call_at c slot (line (turn stamp node) e ∷ past) ≡ Some r → Kept past (turn stamp node) node e c slot r
+kept_cases past stamp (Client d) (Begin s running) ok none c slot r =
+    cond_both (nat_eq c d) (if nat_eq s slot then Some running else call_at c slot past) (call_at c slot past) (λ v. v ≡ Some r → Kept past (turn stamp (Client d)) (Client d) (Begin s running) c slot r)
+    (λ t. cond_both (nat_eq s slot) (Some running) (call_at c slot past) (λ v. v ≡ Some r → Kept past (turn stamp (Client d)) (Client d) (Begin s running) c slot r)
     (λ u e.
     let is : begun (turn stamp (Client d)) running.call running.file running.stage ≡ r = sym ok.is ∙ some_is running r e in
     inr (inl (record {
@@ -152,28 +175,35 @@ call_cases past stamp (Client d) (Begin s running) ok c slot r =
       at = ap (λ (v : Running). v.at) (sym is);
       asking = ap (λ (v : Running). v.asking) (sym is);
       begins = subst (λ v. Begins c past v) (some_is running r e) (subst (λ v. Begins v past running) (sym (eqb-true c d t)) ok.begins);
+      limits = subst (λ (v : Running). IsCall v.call) (some_is running r e) ok.limits;
       newest = (ap Client (sym (eqb-true c d t)), eqb-true s slot u, some_is running r e);
     })))
     (λ u e. inl e))
     (λ t e. inl e)
-call_cases past stamp (Client d) (Queues u q) ok c slot r =
-    cond_both (nat_eq c d) (asks_for q.slot slot Asked (call_at c slot past)) (call_at c slot past) (λ v. v ≡ Some r → Came past (turn stamp (Client d)) (Client d) (Queues u q) c slot r)
+kept_cases past stamp (Client d) (Queues u q) ok none c slot r =
+    cond_both (nat_eq c d) (asks_for q.slot slot Asked (call_at c slot past)) (call_at c slot past) (λ v. v ≡ Some r → Kept past (turn stamp (Client d)) (Client d) (Queues u q) c slot r)
     (λ t e. ⊎_elim
     (λ (k : call_at c slot past ≡ Some r). inl k)
-    (λ (k : Asks q.slot slot Asked (call_at c slot past) r). inr (inr (inl (touched past (Client d) (Queues u q) q.slot Asked c slot r (λ n. refl) k))))
+    (λ (k : Asks q.slot slot Asked (call_at c slot past) r). inr (inr (touched past (Client d) (Queues u q) q.slot Asked c slot r (λ n. refl) k)))
     (asks_cases q.slot slot Asked (call_at c slot past) r e))
     (λ t e. inl e)
-call_cases past stamp (Client d) (Heard u f k) ok c slot r =
-    cond_both (nat_eq c d) (asks_for f.slot slot (Answered u k) (call_at c slot past)) (call_at c slot past) (λ v. v ≡ Some r → Came past (turn stamp (Client d)) (Client d) (Heard u f k) c slot r)
+kept_cases past stamp (Client d) (Heard u f k) ok none c slot r =
+    cond_both (nat_eq c d) (asks_for f.slot slot (Answered u k) (call_at c slot past)) (call_at c slot past) (λ v. v ≡ Some r → Kept past (turn stamp (Client d)) (Client d) (Heard u f k) c slot r)
     (λ t e. ⊎_elim
     (λ (w : call_at c slot past ≡ Some r). inl w)
-    (λ (w : Asks f.slot slot (Answered u k) (call_at c slot past) r). inr (inr (inl (touched past (Client d) (Heard u f k) f.slot (Answered u k) c slot r (λ n. (ap Client (sym (eqb-true c d t)), n, refl)) w))))
+    (λ (w : Asks f.slot slot (Answered u k) (call_at c slot past) r). inr (inr (touched past (Client d) (Heard u f k) f.slot (Answered u k) c slot r (λ n. (ap Client (sym (eqb-true c d t)), n, refl)) w)))
     (asks_cases f.slot slot (Answered u k) (call_at c slot past) r e))
     (λ t e. inl e)
-call_cases past stamp (Client d) (Told s named answer work) ok c slot r =
-    cond_both (nat_eq c d) (if nat_eq s slot then None else call_at c slot past) (call_at c slot past) (λ v. v ≡ Some r → Came past (turn stamp (Client d)) (Client d) (Told s named answer work) c slot r)
-    (λ t. cond_both (nat_eq s slot) None (call_at c slot past) (λ v. v ≡ Some r → Came past (turn stamp (Client d)) (Client d) (Told s named answer work) c slot r) (λ u e. absurd (cc)) (λ u e. inl e))
+kept_cases past stamp (Client d) (Told s named answer work) ok none c slot r =
+    cond_both (nat_eq c d) (if nat_eq s slot then None else call_at c slot past) (call_at c slot past) (λ v. v ≡ Some r → Kept past (turn stamp (Client d)) (Client d) (Told s named answer work) c slot r)
+    (λ t. cond_both (nat_eq s slot) None (call_at c slot past) (λ v. v ≡ Some r → Kept past (turn stamp (Client d)) (Client d) (Told s named answer work) c slot r) (λ u e. absurd (cc)) (λ u e. inl e))
     (λ t e. inl e)
+kept_cases past stamp (Target t) Tick ok none c slot r = λ q. inl q
+kept_cases past stamp (Client d) (Stands s running) ok none c slot r = absurd none
+kept_cases past stamp (Target t) (Stands s running) ok none c slot r = absurd none
+kept_cases past stamp node e ok none c slot r = λ q. inl q
+
+pub call_cases : (past : List Line) (stamp : Stamp) (node : Node) (e : Entry) → EntryOk past (turn stamp node) node e → (c slot : ℕ) (r : Running) → call_at c slot (line (turn stamp node) e ∷ past) ≡ Some r → Came past (turn stamp node) node e c slot r
 call_cases past stamp (Client d) (Stands s running) ok c slot r =
     cond_both (nat_eq c d) (if nat_eq s slot then Some running else call_at c slot past) (call_at c slot past) (λ v. v ≡ Some r → Came past (turn stamp (Client d)) (Client d) (Stands s running) c slot r)
     (λ t. cond_both (nat_eq s slot) (Some running) (call_at c slot past) (λ v. v ≡ Some r → Came past (turn stamp (Client d)) (Client d) (Stands s running) c slot r)
@@ -183,8 +213,8 @@ call_cases past stamp (Client d) (Stands s running) ok c slot r =
     (subst (λ v. StandsOk past (turn stamp (Client d)) v s running) (sym (eqb-true c d t)) ok)))))))
     (λ u e. inl e))
     (λ t e. inl e)
-call_cases past stamp (Target t) Tick ok c slot r = λ q. inl q
-call_cases past stamp node e ok c slot r = λ q. inl q
+call_cases past stamp (Target t) (Stands s running) ok c slot r = absurd ok
+call_cases past stamp node e ok c slot r = λ q. came past (turn stamp node) node e c slot r (kept_cases past stamp node e ok tt c slot r q)
 
 -- ---- a call on a bad handle
 
@@ -285,3 +315,18 @@ had_all head (l ∷ past) g c slot r k u i =
     begins : Begins c past r → In u (used_in r.stage) → ⊥
     begins (inl b) j = subst (λ (s : Stage). In u (used_in s)) b.1 j
     begins (inr b) j = subst (λ (s : Stage). In u (used_in s)) b.1 j
+
+-- ---- a call is within its limits
+
+pub limited : (head : Head) (past : List Line) → Grown head past → (c slot : ℕ) (r : Running) → call_at c slot past ≡ Some r → IsCall r.call
+limited head [] g c slot r k = absurd (cc)
+limited head (l ∷ past) g c slot r k =
+    ⊎_elim
+    (λ (p : call_at c slot past ≡ Some r). limited head past g.1 c slot r p)
+    (λ (p : Began past l.at l.entry c slot r ⊎ (Touched past l.at.node l.entry c slot r ⊎ Stood past l.at c slot r)). ⊎_elim
+    (λ (q : Began past l.at l.entry c slot r). q.limits)
+    (⊎_elim
+    (λ (q : Touched past l.at.node l.entry c slot r). subst IsCall q.same (limited head past g.1 c slot q.before q.call))
+    (λ (q : Stood past l.at c slot r). subst IsCall q.same (limited head past g.1 c slot q.before q.call)))
+    p)
+    (call_cases past l.at.stamp l.at.node l.entry g.0.ok c slot r k)

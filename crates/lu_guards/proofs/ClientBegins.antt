@@ -1,6 +1,6 @@
 -- The turns of a client in a covered run in which a user makes a call: it begins, and is told at once where its handle is bad; or it finds
 -- its slot busy.
-use Rattle.std.proofs.Common.{◌≡◌, ℕ, ◌<◌, Bool, true, false, List, [], ◌∷◌, ◌++◌, ◌⊎◌, inl, inr, Option, Some, None, refl, sym, subst, ap, ◌∙◌}
+use Rattle.std.proofs.Common.{◌≡◌, ℕ, ◌<◌, Bool, true, false, List, [], ◌∷◌, ◌⊎◌, inl, inr, Option, Some, None, refl, sym, subst, ap, ◌∙◌, pos}
 use Rattle.std.specs.Prelude.{nat_eq, ◌||◌, not, is_some}
 use Rattle.std.proofs.lemmas.Bool.{eqb-true}
 use Rattle.lu_base.specs.declared.ids.At.{At}
@@ -19,84 +19,69 @@ use Rattle.lu_client_rows.specs.Calls.{calls_at, handles_at, file_of}
 use Rattle.lu_client_rows.specs.Rows.{rests, row_call}
 use Rattle.lu_client_rows.specs.Slots.{begins, begins_on, begins_close, begins_open}
 use Rattle.lu_client_rows.specs.Starts.{is_on}
-use Rattle.lu_client_rows.specs.States.{Client as ClientState, follow, turn as turn_of}
-use Rattle.lu_covered.specs.Calls.{begun, call_at, operation_of, file_at, is_opening, is_bad, file_for}
-use Rattle.lu_covered.specs.Covered.{IsOnSizes, IsCoveredCall, AllCovered}
+use Rattle.lu_client_rows.specs.States.{Client as ClientState, follow}
+use Rattle.lu_covered.specs.Calls.{begun, call_at, operation_of, file_at, is_opening, is_bad, file_for, life_at}
 use Rattle.lu_table.specs.Heads as table
 use Rattle.lu_table.specs.Runs.{limits_of, client_of}
 use Rattle.lu_guards.proofs.Guards as guards
 use Rattle.lu_guards.proofs.Lists.{self, turn}
 use Rattle.lu_guards.proofs.Turns.{owes_nothing}
-use Rattle.lu_guards.proofs.Covers.{EntriesCovered, covered_turn}
 use Rattle.lu_guards.proofs.ClientHandles.{Tied, unbinding, closes_nothing, closes_unbound, begun_tied, closed_tied, told_tied, count_more}
-use Rattle.lu_guards.proofs.ClientRests.{Good, Idle, Rested, Ended, idle_same, adds, call_line, followed}
-use Rattle.lu_guards.proofs.ClientCalls.{idle_more, covered_left}
+use Rattle.lu_covered.specs.Covered.{IsOnBytes, AllCovered}
+use Rattle.lu_client_rows.specs.Caches.{patches_at}
+use Rattle.lu_guards.proofs.CallStands.{Idle, IdleAt}
+use Rattle.lu_guards.proofs.ClientGood.{Good, Rested, Ended, idle_same, adds, call_line, followed}
+use Rattle.lu_guards.proofs.ClientCalls.{idle_more}
 use Rattle.lu_guards.proofs.ClientPasses.{slots_still}
 use Rattle.lu_guards.proofs.ClientSlots.{HasBegun, has_begun}
 use Rattle.lu_guards.proofs.ClientStarts.{Starts, starts_good, rests_from}
 
 -- ---- which calls begin
 
--- it is on names, or a read, a flush or a glimpse of a file
+-- it is on names, or on the bytes of a file
 abbrev Does : Option HandleFile → Call → Type 0
-Does file x = ((o : Op) × (operation_of file x ≡ Some o)) ⊎ (IsOnSizes x × ((f : HandleFile) × (file ≡ Some f)))
+Does file x = ((o : Op) × (operation_of file x ≡ Some o)) ⊎ (IsOnBytes x × ((f : HandleFile) × (file ≡ Some f)))
 
--- a covered one is on a bad handle, and is told so; or on a good one or on none
+-- one on a bad handle is told so; another is on a good one or on none
 abbrev Beginning : ℕ → List Line → At → ℕ → Call → List Entry → Type 0
 Beginning c p at slot x es =
     ((is_bad c p x ≡ true) × (es ≡ Begin slot (begun at x None Bad) ∷ Told slot at (answer.Refused EBADF) None ∷ []))
     ⊎ ((is_bad c p x ≡ false) × Does (file_for c p x) x × (es ≡ Begin slot (begun at x (file_for c p x) Plain) ∷ unbinding x))
 
--- on a good handle or on none any other covered call is on names
-covered_names : (f : Option HandleFile) (x : Call) (at : At) → (IsOnSizes x → ⊥) → IsCoveredCall (begun at x f Plain) → (o : Op) × (operation_of f x ≡ Some o)
-covered_names f x at other (inl q) = q
-covered_names f x at other (inr (inl q)) = absurd (cc)
-covered_names f x at other (inr (inr q)) = absurd (other q)
-
 module _ (head : table.Head) (c : ℕ) (at : At) (slot : ℕ) (p : List Line) (tied : Tied c p) where
   abbrev Of : Call → List Entry → Type 0
   Of x es = Beginning c p at slot x es
 
-  -- one that changes bytes is covered on a bad handle alone
-  on_file : (x : Call) (h : ℕ) → ((f : Option HandleFile) → operation_of f x ≡ None) → (IsOnSizes x → ⊥) → is_bad c p x ≡ not (is_some (file_at c h p)) → EntriesCovered (begins_on at slot x (file_of h (handles_at c p)))
-      → Of x (begins_on at slot x (file_of h (handles_at c p)))
-  on_file x h none other is covered =
-      subst (λ (f : Option HandleFile). Of x (begins_on at slot x f)) (sym (tied h)) (by (file_at c h p) refl (subst (λ (f : Option HandleFile). EntriesCovered (begins_on at slot x f)) (tied h) covered))
-    where
-      by : (f : Option HandleFile) → file_at c h p ≡ f → EntriesCovered (begins_on at slot x f) → Of x (begins_on at slot x f)
-      by None e k = inl (is ∙ ap (λ (f : Option HandleFile). not (is_some f)) e, refl)
-      by (Some f) e k = absurd (let n : operation_of (Some f) x ≡ None = none (Some f) in let b = (covered_names (Some f) x at other k.0).1 in cc)
-
-  -- a read, a flush or a glimpse is covered on a good one too
-  on_sizes : (x : Call) (h : ℕ) → IsOnSizes x → is_bad c p x ≡ not (is_some (file_at c h p)) → file_for c p x ≡ file_at c h p → unbinding x ≡ [] → Of x (begins_on at slot x (file_of h (handles_at c p)))
-  on_sizes x h sizes is file still = subst (λ (f : Option HandleFile). Of x (begins_on at slot x f)) (sym (tied h)) (by (file_at c h p) refl)
+  -- one on the bytes of a file
+  on_bytes : (x : Call) (h : ℕ) → IsOnBytes x → is_bad c p x ≡ not (is_some (file_at c h p)) → file_for c p x ≡ file_at c h p → unbinding x ≡ [] → Of x (begins_on at slot x (file_of h (handles_at c p)))
+  on_bytes x h bytes is file still = subst (λ (f : Option HandleFile). Of x (begins_on at slot x f)) (sym (tied h)) (by (file_at c h p) refl)
     where
       by : (f : Option HandleFile) → file_at c h p ≡ f → Of x (begins_on at slot x f)
       by None e = inl (is ∙ ap (λ (f : Option HandleFile). not (is_some f)) e, refl)
       by (Some f) e =
           inr (
             is ∙ ap (λ (g : Option HandleFile). not (is_some g)) e,
-            inr (sizes, (f, file ∙ e)),
+            inr (bytes, (f, file ∙ e)),
             ap (λ (g : Option HandleFile). Begin slot (begun at x g Plain) ∷ []) (sym (file ∙ e)) ∙ ap (λ (es : List Entry). Begin slot (begun at x (file_for c p x) Plain) ∷ es) (sym still),
           )
 
   -- one on none
-  plain : (x : Call) → is_bad c p x ≡ false → file_for c p x ≡ None → unbinding x ≡ [] → (IsOnSizes x → ⊥) → IsCoveredCall (begun at x None Plain) → Of x (Begin slot (begun at x None Plain) ∷ [])
-  plain x good file still other k =
+  plain : (x : Call) (o : Op) → operation_of None x ≡ Some o → is_bad c p x ≡ false → file_for c p x ≡ None → unbinding x ≡ [] → Of x (Begin slot (begun at x None Plain) ∷ [])
+  plain x o is good file still =
       inr (
         good,
-        inl (subst (λ (f : Option HandleFile). (o : Op) × (operation_of f x ≡ Some o)) (sym file) (covered_names None x at other k)),
+        inl (subst (λ (f : Option HandleFile). (o : Op) × (operation_of f x ≡ Some o)) (sym file) (o, is)),
         ap (λ (f : Option HandleFile). Begin slot (begun at x f Plain) ∷ []) (sym file) ∙ ap (λ (es : List Entry). Begin slot (begun at x (file_for c p x) Plain) ∷ es) (sym still),
       )
 
-  begins_so : (x : Call) → EntriesCovered (begins at slot x (client_of head c p)) → Of x (begins at slot x (client_of head c p))
-  begins_so (call.Open h path) k =
+  begins_so : (x : Call) → Of x (begins at slot x (client_of head c p))
+  begins_so (call.Open h path) =
       subst (λ (b : Bool). Of (call.Open h path) (begins_open at slot (call.Open h path) b)) (sym (ap (λ (f : Option HandleFile). is_some f || is_opening c h p) (tied h))) (by (is_bad c p (call.Open h path)) refl)
     where
       by : (b : Bool) → is_bad c p (call.Open h path) ≡ b → Of (call.Open h path) (begins_open at slot (call.Open h path) b)
       by true e = inl (e, refl)
       by false e = inr (e, inl (op.Open path, refl), refl)
-  begins_so (call.Close h) k = subst (λ (f : Option HandleFile). Of (call.Close h) (begins_close at slot h f)) (sym (tied h)) (by (file_at c h p) refl)
+  begins_so (call.Close h) = subst (λ (f : Option HandleFile). Of (call.Close h) (begins_close at slot h f)) (sym (tied h)) (by (file_at c h p) refl)
     where
       by : (f : Option HandleFile) → file_at c h p ≡ f → Of (call.Close h) (begins_close at slot h f)
       by None e = inl (ap (λ (f : Option HandleFile). not (is_some f)) e, refl)
@@ -106,12 +91,23 @@ module _ (head : table.Head) (c : ℕ) (at : At) (slot : ℕ) (p : List Line) (t
             inl (op.Close f.number f.fid, ap (λ (g : Option HandleFile). operation_of g (call.Close h)) e),
             ap (λ (g : Option HandleFile). Begin slot (begun at (call.Close h) g Plain) ∷ Unbinds h ∷ []) (sym e),
           )
-  begins_so (call.Read h x n) k = on_sizes (call.Read h x n) h tt refl refl refl
-  begins_so (call.Write h x bs) k = on_file (call.Write h x bs) h (λ f. refl) (λ n. n) refl k
-  begins_so (call.Cut h n) k = on_file (call.Cut h n) h (λ f. refl) (λ n. n) refl k
-  begins_so (call.Flush h) k = on_sizes (call.Flush h) h tt refl refl refl
-  begins_so (call.Glimpse h) k = on_sizes (call.Glimpse h) h tt refl refl refl
-  begins_so x k = plain x refl refl refl (λ n. n) k.0
+  begins_so (call.Read h x n) = on_bytes (call.Read h x n) h tt refl refl refl
+  begins_so (call.Write h x bs) = on_bytes (call.Write h x bs) h tt refl refl refl
+  begins_so (call.Cut h n) = on_bytes (call.Cut h n) h tt refl refl refl
+  begins_so (call.Flush h) = on_bytes (call.Flush h) h tt refl refl refl
+  begins_so (call.Glimpse h) = on_bytes (call.Glimpse h) h tt refl refl refl
+  begins_so (call.Lookup path) = plain (call.Lookup path) (op.Lookup path) refl refl refl refl
+  begins_so (call.Stat path) = plain (call.Stat path) (op.Stat path) refl refl refl refl
+  begins_so (call.List path) = plain (call.List path) (op.List path) refl refl refl refl
+  begins_so (call.Layout path) = plain (call.Layout path) (op.Layout path) refl refl refl refl
+  begins_so (call.Mkdir path) = plain (call.Mkdir path) (op.Mkdir path) refl refl refl refl
+  begins_so (call.Create path None) = plain (call.Create path None) (op.Create path 1048576 (pos 1)) refl refl refl refl
+  begins_so (call.Create path (Some stripes)) = plain (call.Create path (Some stripes)) (op.Create path stripes.0 stripes.1) refl refl refl refl
+  begins_so (call.Link old new) = plain (call.Link old new) (op.Link old new) refl refl refl refl
+  begins_so (call.Unlink path) = plain (call.Unlink path) (op.Unlink path) refl refl refl refl
+  begins_so (call.Rmdir path) = plain (call.Rmdir path) (op.Rmdir path) refl refl refl refl
+  begins_so (call.Rename old new) = plain (call.Rename old new) (op.Rename old new) refl refl refl refl
+  begins_so (call.Chmod path mode) = plain (call.Chmod path mode) (op.Chmod path mode) refl refl refl refl
 
 module _ (head : table.Head) (c : ℕ) (stamp : Stamp) where
   abbrev at : At
@@ -135,12 +131,12 @@ module _ (head : table.Head) (c : ℕ) (stamp : Stamp) where
       by true q = absurd (n (sym (eqb-true slot u q)))
       by false q = call_line head c stamp u p (Begin slot r) ∙ rw q refl
 
-  begin_good : (p : List Line) (slot : ℕ) (r : Running) → Starts head c stamp p → slot < 4 → IsCall r.call → call_at c slot p ≡ None → r ≡ begun at r.call r.file r.stage → guards.Begins c p r → IsCoveredCall r
+  begin_good : (p : List Line) (slot : ℕ) (r : Running) → Starts head c stamp p → slot < 4 → IsCall r.call → call_at c slot p ≡ None → r ≡ begun at r.call r.file r.stage → guards.Begins c p r
       → Good head c at (line at (Begin slot r) ∷ p)
-  begin_good p slot r s small limits empty is begins covered =
+  begin_good p slot r s small limits empty is begins =
       adds head c stamp p (Begin slot r) (starts_good head c stamp p s) (owes_nothing p at (Begin slot r) s.settled)
       (record { later = s.later; small = small; free = empty; is = is; limits = limits; begins = begins; calm = s.between.calm; ready = s.ready }) (λ t q. tt)
-      covered refl
+      tt refl
 
   -- one on a bad handle is told so
   begin_bad : (p : List Line) (slot : ℕ) (wanted : Call) → Starts head c stamp p → slot < 4 → IsCall wanted → call_at c slot p ≡ None → is_bad c p wanted ≡ true
@@ -148,10 +144,10 @@ module _ (head : table.Head) (c : ℕ) (stamp : Stamp) where
   begin_bad p slot wanted s small limits empty bad =
       record {
         good =
-            adds head c stamp p1 e (begin_good p slot r s small limits empty refl (inr (bad, refl, refl)) (inr (inl refl))) (refl, refl)
+            adds head c stamp p1 e (begin_good p slot r s small limits empty refl (inr (bad, refl, refl))) (refl, refl)
             (inr (inr (inr (inl (record { running = r; call = stands; bad = refl; begun = refl; of_turn = refl; of_answer = refl; plain = refl }))))) (λ t q. tt) tt refl;
         settled = tt;
-        idle = idle_same c p (line at e ∷ p1) same s.between.idle;
+        idle = idle_same c p (line at e ∷ p1) same refl (λ x h. h) s.between.idle;
         handles = told_tied c stamp p1 slot at (answer.Refused EBADF) None r stands refl (begun_tied c stamp p slot r (closes_unbound c p wanted bad) s.between.handles);
       }
     where
@@ -192,8 +188,8 @@ module _ (head : table.Head) (c : ℕ) (stamp : Stamp) where
       good = sort does
         where
           sort : Does file wanted → Good head c at p1
-          sort (inl q) = begin_good p slot r s small limits empty refl (inl (fine, refl, of_file, inl q)) (inl q)
-          sort (inr q) = begin_good p slot r s small limits empty refl (inl (fine, refl, of_file, inr q.0)) (inr (inr q.0))
+          sort (inl q) = begin_good p slot r s small limits empty refl (inl (fine, refl, of_file, inl q))
+          sort (inr q) = begin_good p slot r s small limits empty refl (inl (fine, refl, of_file, inr q.0))
 
       stands : call_at c slot p1 ≡ Some r
       stands = call_line head c stamp slot p (Begin slot r) ∙ rw (self slot) refl
@@ -206,33 +202,31 @@ module _ (head : table.Head) (c : ℕ) (stamp : Stamp) where
           by true t = absurd (let none : is_on n (call_at c u p) ≡ false = ap (is_on n) (ap (λ (v : ℕ). call_at c v p) (sym (eqb-true slot u t)) ∙ empty) in cc)
           by false t = ap (is_on n) (begin_other p slot r u (λ is. let t : nat_eq slot u ≡ true = ap (nat_eq slot) is ∙ self slot in absurd (cc))) ∙ q
 
-      others : (u : ℕ) → (u ≡ slot → ⊥) → Idle (calls_at c p1) (call_at c u p1)
-      others u n = subst (Idle (calls_at c p1)) (sym (begin_other p slot r u n)) (idle_more (calls_at c p) (calls_at c p1) (λ n. count_more c n p p1 (on_more n)) (call_at c u p) (s.between.idle u))
+      others : (u : ℕ) → (u ≡ slot → ⊥) → IdleAt c p1 u
+      others u n =
+          subst (Idle (life_at c p1) (patches_at c p1) (calls_at c p1)) (sym (begin_other p slot r u n))
+          (idle_more (life_at c p) (patches_at c p) (calls_at c p) (calls_at c p1) (λ n. count_more c n p p1 (on_more n)) (call_at c u p) (s.between.idle u))
 
       by : (x : Call) → wanted ≡ x → HasBegun head c stamp slot wanted file (with_turn at (unbinding x) p1)
       by (call.Close h) e =
           record {
-            begun = record {
-              good = adds head c stamp p1 (Unbinds h) good (subst (λ (x : Call). guards.OwesBegun (at ≡ at) slot Plain x (Unbinds h)) (sym e) tt) tt (λ t q. tt) tt refl;
-              small = small;
-              call = stands;
-              others = others;
-              handles = closed_tied c stamp p slot r h e s.between.handles;
-              due = λ x q. tt;
-            };
+            good = adds head c stamp p1 (Unbinds h) good (subst (λ (x : Call). guards.OwesBegun (at ≡ at) slot Plain x (Unbinds h)) (sym e) tt) tt (λ t q. tt) tt refl;
+            small = small;
+            call = stands;
+            others = others;
+            handles = closed_tied c stamp p slot r h e s.between.handles;
+            due = λ x q. tt;
             quiet = λ q. tt;
             does = does;
           }
       by x e =
           record {
-            begun = record {
-              good = good;
-              small = small;
-              call = stands;
-              others = others;
-              handles = begun_tied c stamp p slot r (λ h. closes_nothing h wanted (file_at c h p) (ap unbinding e)) s.between.handles;
-              due = λ x q. q;
-            };
+            good = good;
+            small = small;
+            call = stands;
+            others = others;
+            handles = begun_tied c stamp p slot r (λ h. closes_nothing h wanted (file_at c h p) (ap unbinding e)) s.between.handles;
+            due = λ x q. q;
             quiet = λ q. q;
             does = does;
           }
@@ -241,7 +235,7 @@ module _ (head : table.Head) (c : ℕ) (stamp : Stamp) where
       → AllCovered (with_turn at (row_call (limits_of head) at slot wanted (client_of head c p) x) p) → Ended head c at (with_turn at (row_call (limits_of head) at slot wanted (client_of head c p) x) p)
   call_ends p slot wanted s small limits (Some r) e covered = busy_ends p slot s
   call_ends p slot wanted s small limits None e covered =
-      by (begins at slot wanted k) (begins_so head c at slot p s.between.handles wanted (covered_left es more (covered_turn at (es ++ more) p covered).0)) covered
+      by (begins at slot wanted k) (begins_so head c at slot p s.between.handles wanted) covered
     where
       k : ClientState
       k = client_of head c p
@@ -251,9 +245,6 @@ module _ (head : table.Head) (c : ℕ) (stamp : Stamp) where
 
       after : ClientState → List Entry
       after = rests (limits_of head) at
-
-      more : List Entry
-      more = after (turn_of k es)
 
       by : (fs : List Entry) → Beginning c p at slot wanted fs → AllCovered (with_turn at (follow fs after k) p) → Ended head c at (with_turn at (follow fs after k) p)
       by fs (inl bad) cov =

@@ -1,12 +1,14 @@
 -- The calls of a client's slots, by the rows. A call that has asked doesn't move, nor does a close that waits for others on its open; a close
 -- that waits for none is free. What a call on names does first, and what it does once it was answered.
-use Rattle.std.proofs.Common.{◌≡◌, ℕ, zero, suc, ◌≤◌, ◌<◌, Bool, true, false, List, [], ◌∷◌, ◌++◌, ◌⊎◌, inl, inr, ⊎_elim, Option, Some, None, refl, sym, subst, ap, ◌∙◌, arith, pos}
-use Rattle.std.specs.Prelude.{nat_eq, nat_lt, ◌||◌, if◌then◌else◌}
+use Rattle.std.proofs.Common.{◌≡◌, ℕ, zero, suc, ◌≤◌, ◌<◌, Bool, true, false, List, [], ◌∷◌, ◌++◌, ◌⊎◌, inl, inr, Option, Some, None, refl, sym, subst, ap, ◌∙◌, arith, pos}
+use Rattle.std.specs.Prelude.{nat_eq, nat_lt, ◌||◌, if◌then◌else◌, length}
 use Rattle.std.specs.List.{list_any}
-use Rattle.std.proofs.lemmas.Bool.{or_from}
+use Rattle.std.proofs.lemmas.Bool.{eqb-true}
 use Rattle.std.proofs.lemmas.Bool.Decides.{nat_tests}
 use Rattle.lu_base.specs.declared.ids.At.{At}
 use Rattle.lu_base.specs.declared.ids.Fid.{Fid}
+use Rattle.lu_base.specs.declared.ids.Who.{Who}
+use Rattle.lu_base.specs.declared.locks.Resource.{Resource}
 use Rattle.lu_layout.specs.Raid0.{Raid0}
 use Rattle.lu_msg.specs.declared.answers.Answer.{Answer}
 use Rattle.lu_msg.specs.declared.answers.Answer.TheVariants as answer
@@ -14,22 +16,25 @@ use Rattle.lu_msg.specs.declared.calls.Call.{Call}
 use Rattle.lu_msg.specs.declared.calls.Call.TheVariants as call
 use Rattle.lu_msg.specs.declared.operations.Op.{Op}
 use Rattle.lu_msg.specs.declared.operations.Op.TheVariants as op
-use Rattle.lu_words.specs.Carried.{HandleFile, Kind, Stats, Glimpses, Asking, Unasked, Asked, Stage, Plain, Running}
+use Rattle.lu_held.specs.declared.locks.Use.{Use}
+use Rattle.lu_words.specs.Carried.{HandleFile, Kind, Stats, Glimpses, Asking, Asked, Answered, Work, Stage, Plain, Running}
 use Rattle.lu_words.specs.Words.{Entry, Queues, Line}
 use Rattle.lu_client_rows.specs.Advances.{queued_for, tells}
+use Rattle.lu_client_rows.specs.Caches.{patches_at}
 use Rattle.lu_client_rows.specs.Calls.{asks, asks_for, call_on, calls_at}
+use Rattle.lu_client_rows.specs.Glimpses.{glimpse_hears}
+use Rattle.lu_client_rows.specs.Patches.{Patch}
 use Rattle.lu_client_rows.specs.Known.{Notes, Known, KnownFile, Found, found_at_path, lookup_known, list_known, layout_known, directory_known, file_known, cookies_of_file, names_of}
-use Rattle.lu_client_rows.specs.Slots.{goes_at, goes, goes_on, passes, all_slots, is_alone, is_close, is_free_close}
+use Rattle.lu_client_rows.specs.Slots.{goes_at, is_alone, is_close, is_free_close}
 use Rattle.lu_client_rows.specs.Starts.{sizes_heard, tells_known, starts_known, stats as stats_at, stats_file, starts_stat, is_on, count_on, starts_close, notes_of, starts, answers, goes_plain}
-use Rattle.lu_client_rows.specs.States.{Client as ClientState, turn as turn_of}
-use Rattle.lu_covered.specs.Calls.{call_at, operation_of, becomes, told_as}
+use Rattle.lu_client_rows.specs.States.{Client as ClientState, Store}
+use Rattle.lu_covered.specs.Calls.{call_at, life_at, operation_of, becomes, told_as}
 use Rattle.lu_covered.specs.Known.{told_of, known_answer, known_file}
 use Rattle.lu_guards.proofs.Guards.{IsToldAsIs}
 use Rattle.lu_guards.proofs.Lists.{self}
-use Rattle.lu_guards.proofs.Covers.{EntriesCovered}
-use Rattle.lu_guards.proofs.ClientSizes.{IsUnheard, unheard_not}
+pub use Rattle.lu_guards.proofs.Covers.{EntriesCovered, covered_left, covered_right}
 use Rattle.lu_guards.proofs.ClientHandles.{binding, count_self, count_more}
-use Rattle.lu_guards.proofs.ClientRests.{ReadsOn, StatsOn, Sizing, HasAsked, WaitsToClose, Idle, AllIdle}
+use Rattle.lu_guards.proofs.CallStands.{TellsNothing, IsUnheard, HasAsked, Closing, Idle, AllIdle, Still}
 use Rattle.lu_guards.proofs.ClientKnown.{AllUsable, lookup_usable, list_usable, layout_usable, directory_usable, file_usable, found_usable}
 
 -- ---- slots whose calls wait don't move
@@ -38,42 +43,32 @@ use Rattle.lu_guards.proofs.ClientKnown.{AllUsable, lookup_usable, list_usable, 
 abbrev pub OnNames : Running → Type 0
 OnNames r = (r.stage ≡ Plain) × ((o : Op) × (becomes r ≡ Some o))
 
--- a close that has asked nothing yet: it waits for other calls on its open, or is free
-pub record Closing (r : Running) : Type 0 where
-  pub handle : ℕ
-  pub closes : r.call ≡ call.Close handle
-  pub file : HandleFile
-  pub of_file : r.file ≡ Some file
-  pub plain : r.stage ≡ Plain
-  pub new : r.asking ≡ Unasked
-  pub pins : r.pins ≡ []
+hears_nothing : (at : At) (slot : ℕ) (left : List Use) (sizes : List ℕ) (a : Answer) (r : Running) (w : Work) (s : Store) → TellsNothing a → glimpse_hears at slot left sizes a r w s ≡ []
+hears_nothing at slot left sizes (answer.Size size) r w s n = absurd n
+hears_nothing at slot left sizes answer.Lock r w s n = absurd n
+hears_nothing at slot [] sizes a r w s n = refl
+hears_nothing at slot (wanted ∷ left) sizes a r w s n = refl
 
--- a call that waits, or a close that may be free
-abbrev pub Calm : Option Running → Type 0
-Calm None = Unit {0}
-Calm (Some r) = HasAsked r ⊎ Closing r
+unheard_not : (at : At) (slot : ℕ) (sizes : List ℕ) (asking : Asking) (r : Running) (w : Work) (s : Store) → IsUnheard asking → sizes_heard at slot asking (Glimpses sizes) r w s ≡ []
+unheard_not at slot sizes (Answered t reply) r w s n = hears_nothing at slot w.left sizes reply.answer r w s n
+unheard_not at slot sizes asking r w s n = absurd n
 
-abbrev closing : (calls : List (Option Running)) (r : Running) → WaitsToClose calls r → Closing r
-closing calls r w = record { handle = w.handle; closes = w.closes; file = w.file; of_file = w.of_file; plain = w.plain; new = w.new; pins = w.pins }
-
-pub calm_of : (calls : List (Option Running)) (x : Option Running) → Idle calls x → Calm x
-calm_of calls None i = tt
-calm_of calls (Some r) (inl a) = inl a
-calm_of calls (Some r) (inr w) = inr (closing calls r w)
-
-pub asked_not : (at : At) (slot : ℕ) (r : Running) (k : ClientState) → HasAsked r → goes_at at slot r.stage r k ≡ []
-asked_not at slot r k a = by a
+pub asked_not : (at : At) (slot : ℕ) (who : Who) (r : Running) (k : ClientState) → HasAsked who r → goes_at at slot r.stage r k ≡ []
+asked_not at slot who r k (inl n) = ap (λ (s : Stage). goes_at at slot s r k) n.plain ∙ ap (λ (x : Asking). goes_plain at slot x r k) n.asked
+asked_not at slot who r k (inr (inl a)) = ap (λ (s : Stage). goes_at at slot s r k) a.sizing.stage ∙ ap (λ (x : Kind). sizes_heard at slot r.asking x r a.sizing.work k.store) a.sizing.sized.kind ∙ waits a.waits
   where
-    waits : (g : Sizing r) → (r.asking ≡ Asked) ⊎ IsUnheard r.asking → sizes_heard at slot r.asking (Glimpses g.sizes) r g.work k.store ≡ []
-    waits g (inl e) = ap (λ (x : Asking). sizes_heard at slot x (Glimpses g.sizes) r g.work k.store) e
-    waits g (inr u) = unheard_not at slot g.sizes r.asking r g.work k.store u
+    sizes : List ℕ
+    sizes = a.sizing.sized.sizes
 
-    by : HasAsked r → goes_at at slot r.stage r k ≡ []
-    by (inl (n, inl q)) = ap (λ (s : Stage). goes_at at slot s r k) q.1 ∙ ap (λ (x : Asking). goes_plain at slot x r k) q.0
-    by (inl (n, inr q)) = ap (λ (s : Stage). goes_at at slot s r k) q.0.stage ∙ ap (λ (x : Kind). sizes_heard at slot r.asking x r q.0.work k.store) q.0.kind ∙ waits q.0 q.1
-    by (inr l) = ap (λ (s : Stage). goes_at at slot s r k) l.stage
+    waits : (r.asking ≡ Asked) ⊎ IsUnheard r.asking → sizes_heard at slot r.asking (Glimpses sizes) r a.sizing.work k.store ≡ []
+    waits (inl e) = ap (λ (x : Asking). sizes_heard at slot x (Glimpses sizes) r a.sizing.work k.store) e
+    waits (inr u) = unheard_not at slot sizes r.asking r a.sizing.work k.store u
+asked_not at slot who r k (inr (inr (inl l))) = ap (λ (s : Stage). goes_at at slot s r k) l.stage
+asked_not at slot who r k (inr (inr (inr (inl w)))) = ap (λ (s : Stage). goes_at at slot s r k) w.stage
+asked_not at slot who r k (inr (inr (inr (inr (inl f))))) = ap (λ (s : Stage). goes_at at slot s r k) f.stage
+asked_not at slot who r k (inr (inr (inr (inr (inr g))))) = ap (λ (s : Stage). goes_at at slot s r k) g.stage
 
--- it asks, where no other call is on its open
+-- a close asks, where no other call is on its open
 pub closes_so : (at : At) (slot : ℕ) (r : Running) (k : ClientState) (w : Closing r)
     → goes_at at slot r.stage r k ≡ (if nat_lt 1 (count_on w.file.number.0 k.calls) then [] else Queues 0 (queued_for slot (op.Close w.file.number w.file.fid)) ∷ [])
 closes_so at slot r k w =
@@ -82,80 +77,45 @@ closes_so at slot r k w =
     ∙ ap (λ (x : Call). starts at slot x r k) w.closes
     ∙ ap (λ (f : Option HandleFile). starts_close slot k.calls f) w.of_file
 
-waits_not : (at : At) (slot : ℕ) (r : Running) (k : ClientState) → WaitsToClose k.calls r → goes_at at slot r.stage r k ≡ []
-waits_not at slot r k w =
-    closes_so at slot r k (closing k.calls r w)
-    ∙ ap (λ (b : Bool). if b then [] else Queues 0 (queued_for slot (op.Close w.file.number w.file.fid)) ∷ []) w.others
-
-goes_not : (at : At) (slot : ℕ) (k : ClientState) → Idle k.calls (call_on slot k.calls) → goes at slot k ≡ []
-goes_not at slot k p = by (call_on slot k.calls) p
-  where
-    by : (x : Option Running) → Idle k.calls x → goes_on at slot k x ≡ []
-    by None p = refl
-    by (Some r) (inl a) = asked_not at slot r k a
-    by (Some r) (inr w) = waits_not at slot r k w
-
-abbrev Waiting : List ℕ → ClientState → Type 0
-Waiting [] k = Unit {0}
-Waiting (slot ∷ slots) k = Idle k.calls (call_on slot k.calls) × Waiting slots k
-
--- those before one that moves
-passes_before : (at : At) (before after : List ℕ) (slot : ℕ) (k : ClientState) → Waiting before k → passes at (before ++ slot ∷ after) k ≡ goes at slot k ++ passes at after (turn_of k (goes at slot k))
-passes_before at [] after slot k b = refl
-passes_before at (x ∷ before) after slot k b = rw (goes_not at x k b.0) (passes_before at before after slot k b.1)
-
-abbrev pub WaitBut : ℕ → ClientState → Type 0
-WaitBut s k = (slot : ℕ) → (slot ≡ s → ⊥) → Idle k.calls (call_on slot k.calls)
-
-abbrev pub AllSmall : List ℕ → Type 0
-AllSmall [] = Unit {0}
-AllSmall (slot ∷ slots) = (slot < 4) × AllSmall slots
-
--- the pass begins with the lines of the one that moves, and goes on with the slots after it
-abbrev pub After : At → ℕ → ClientState → Type 0
-After at s k = (after : List ℕ) × AllSmall after × (passes at all_slots k ≡ goes at s k ++ passes at after (turn_of k (goes at s k)))
-
-pub passes_from : (at : At) (s : ℕ) (k : ClientState) → s < 4 → WaitBut s k → After at s k
-passes_from at zero k b p = (1 ∷ 2 ∷ 3 ∷ [], (omega arith, (omega arith, (omega arith, tt))), passes_before at [] (1 ∷ 2 ∷ 3 ∷ []) 0 k tt)
-passes_from at (suc zero) k b p = (2 ∷ 3 ∷ [], (omega arith, (omega arith, tt)), passes_before at (0 ∷ []) (2 ∷ 3 ∷ []) 1 k (p 0 (λ e. absurd (cc)), tt))
-passes_from at (suc (suc zero)) k b p = (3 ∷ [], (omega arith, tt), passes_before at (0 ∷ 1 ∷ []) (3 ∷ []) 2 k (p 0 (λ e. absurd (cc)), (p 1 (λ e. absurd (cc)), tt)))
-passes_from at (suc (suc (suc zero))) k b p = ([], tt, passes_before at (0 ∷ 1 ∷ 2 ∷ []) [] 3 k (p 0 (λ e. absurd (cc)), (p 1 (λ e. absurd (cc)), (p 2 (λ e. absurd (cc)), tt))))
-passes_from at (suc (suc (suc (suc s)))) k b p = absurd (omega (arith, b))
-
 -- ---- closes that are free
 
-close_not : (c : Call) → is_close c Asked ≡ false
-close_not (call.Close h) = refl
-close_not c = refl
+-- a close that has asked nothing yet
+abbrev pub is_closing : Option Running → Bool
+is_closing None = false
+is_closing (Some r) = is_close r.call r.asking
 
--- one that waits isn't
-one_not : (n : ℕ) → nat_lt 1 n ≡ true → nat_eq n 1 ≡ false
+-- one that waits isn't free
+pub one_not : (n : ℕ) → nat_lt 1 n ≡ true → nat_eq n 1 ≡ false
 one_not n e = grind (arith, nat_tests)
 
-asked_calm : (all : List (Option Running)) (r : Running) → HasAsked r → is_free_close all (Some r) ≡ false
-asked_calm all r a = by a
-  where
-    by : HasAsked r → is_free_close all (Some r) ≡ false
-    by (inl (n, inl q)) = ap (λ (b : Bool). if b then is_alone all r.file else false) (ap (is_close r.call) q.0 ∙ close_not r.call)
-    by (inl (n, inr q)) = ap (λ (x : Call). if is_close x r.asking then is_alone all r.file else false) q.0.glimpses
-    by (inr l) =
-        ⊎_elim (λ (q : ReadsOn r l.work). ap (λ (x : Call). if is_close x r.asking then is_alone all r.file else false) q.read.reads)
-        (λ (q : StatsOn r l.work). ap (λ (x : Call). if is_close x r.asking then is_alone all r.file else false) q.stats) l.reading.does
+pub more_than : (n : ℕ) → 1 ≤ n → nat_eq n 1 ≡ false → nat_lt 1 n ≡ true
+more_than n low e = grind (arith, nat_tests)
 
-closing_is : (all : List (Option Running)) (r : Running) (w : Closing r) → is_free_close all (Some r) ≡ nat_eq (count_on w.file.number.0 all) 1
+pub closing_is : (all : List (Option Running)) (r : Running) (w : Closing r) → is_free_close all (Some r) ≡ nat_eq (count_on w.file.number.0 all) 1
 closing_is all r w =
     ap (λ (x : Call). if is_close x r.asking then is_alone all r.file else false) w.closes
     ∙ ap (λ (x : Asking). if is_close (call.Close w.handle) x then is_alone all r.file else false) w.new
     ∙ ap (is_alone all) w.of_file
 
-pub free_not : (all calls : List (Option Running)) → ((slot : ℕ) → Idle all (call_on slot calls)) → list_any (is_free_close all) calls ≡ false
-free_not all [] p = refl
-free_not all (None ∷ calls) p = free_not all calls (λ slot. p (suc slot))
-free_not all (Some r ∷ calls) p = or_from (is_free_close all (Some r)) (list_any (is_free_close all) calls) (by (p 0)) (free_not all calls (λ slot. p (suc slot)))
+-- what is free is a close
+pub free_closing : (all : List (Option Running)) (x : Option Running) → is_free_close all x ≡ true → is_closing x ≡ true
+free_closing all None e = absurd (cc)
+free_closing all (Some r) e = by (is_close r.call r.asking) e
   where
-    by : Idle all (Some r) → is_free_close all (Some r) ≡ false
-    by (inl a) = asked_calm all r a
-    by (inr w) = closing_is all r (closing all r w) ∙ one_not (count_on w.file.number.0 all) w.others
+    by : (b : Bool) → (if b then is_alone all r.file else false) ≡ true → b ≡ true
+    by true q = refl
+    by false q = absurd (cc)
+
+-- one that isn't free waits, where it is on its own open
+pub waits_close : (all : List (Option Running)) (slot : ℕ) (r : Running) (w : Closing r) → call_on slot all ≡ Some r → is_free_close all (Some r) ≡ false → nat_lt 1 (count_on w.file.number.0 all) ≡ true
+waits_close all slot r w e none =
+    let n = w.file.number.0 in
+    let on : is_on n (call_on slot all) ≡ true = ap (is_on n) e ∙ ap (λ (f : Option HandleFile). elim f [ None ↦ false | Some g ↦ nat_eq g.number.0 n ]) w.of_file ∙ self n in
+    more_than (count_on n all) (count_self n slot all on) (sym (closing_is all r w) ∙ none)
+
+-- one that is free is on its open alone
+pub free_alone : (all : List (Option Running)) (r : Running) (w : Closing r) → is_free_close all (Some r) ≡ true → count_on w.file.number.0 all ≡ 1
+free_alone all r w e = eqb-true (count_on w.file.number.0 all) 1 (sym (closing_is all r w) ∙ e)
 
 any_not : (f : Option Running → Bool) → f None ≡ false → (calls : List (Option Running)) (slot : ℕ) → list_any f calls ≡ false → f (call_on slot calls) ≡ false
 any_not f none [] slot e = none
@@ -170,47 +130,46 @@ any_not f none (x ∷ calls) (suc slot) e = any_not f none calls slot (by (f x) 
     by true q = absurd (cc)
     by false q = q
 
-more_than : (n : ℕ) → 1 ≤ n → nat_eq n 1 ≡ false → nat_lt 1 n ≡ true
-more_than n low e = grind (arith, nat_tests)
-
--- where none is, each waits
-pub calm_idle : (calls : List (Option Running)) (slot : ℕ) → Calm (call_on slot calls) → list_any (is_free_close calls) calls ≡ false → Idle calls (call_on slot calls)
-calm_idle calls slot m none = by (call_on slot calls) refl m
+-- where none is free, each waits
+pub still_idle : (who : Who) (patches : List (Resource × Patch)) (calls : List (Option Running)) (slot : ℕ) → Still who patches (call_on slot calls) → list_any (is_free_close calls) calls ≡ false → Idle who patches calls (call_on slot calls)
+still_idle who patches calls slot m none = by (call_on slot calls) refl m
   where
-    by : (x : Option Running) → call_on slot calls ≡ x → Calm x → Idle calls x
+    by : (x : Option Running) → call_on slot calls ≡ x → Still who patches x → Idle who patches calls x
     by None e m = tt
     by (Some r) e (inl a) = inl a
-    by (Some r) e (inr w) =
-        let n = w.file.number.0 in
-        let on : is_on n (call_on slot calls) ≡ true = ap (is_on n) e ∙ ap (λ (f : Option HandleFile). elim f [ None ↦ false | Some g ↦ nat_eq g.number.0 n ]) w.of_file ∙ self n in
-        let not_free : nat_eq (count_on n calls) 1 ≡ false = sym (closing_is calls r w) ∙ ap (is_free_close calls) (sym e) ∙ any_not (is_free_close calls) refl calls slot none in
-        inr (record { handle = w.handle; closes = w.closes; file = w.file; of_file = w.of_file; plain = w.plain; new = w.new; pins = w.pins; others = more_than (count_on n calls) (count_self n slot calls on) not_free })
+    by (Some r) e (inr w) = inr (record { closing = w; others = waits_close calls slot r w e (ap (is_free_close calls) (sym e) ∙ any_not (is_free_close calls) refl calls slot none) })
+
+-- some slot has one that is free
+pub any_on : (f : Option Running → Bool) (calls : List (Option Running)) → list_any f calls ≡ true → (slot : ℕ) × (slot < length calls) × (f (call_on slot calls) ≡ true)
+any_on f [] e = absurd (cc)
+any_on f (x ∷ calls) e = by (f x) refl e (λ k. any_on f calls k)
+  where
+    by : (b : Bool) → f x ≡ b → (b || list_any f calls) ≡ true → (list_any f calls ≡ true → (slot : ℕ) × (slot < length calls) × (f (call_on slot calls) ≡ true))
+        → (slot : ℕ) × (slot < suc (length calls)) × (f (call_on slot (x ∷ calls)) ≡ true)
+    by true q k more = (0, omega arith, q)
+    by false q k more = let r = more k in let low = r.1 in (suc r.0, omega (arith, low), r.2)
 
 -- with as many calls on each open or more, each waits still
-pub idle_more : (calls more : List (Option Running)) → ((n : ℕ) → count_on n calls ≤ count_on n more) → (x : Option Running) → Idle calls x → Idle more x
-idle_more calls more le None i = tt
-idle_more calls more le (Some r) (inl a) = inl a
-idle_more calls more le (Some r) (inr w) =
-    inr (record {
-      handle = w.handle;
-      closes = w.closes;
-      file = w.file;
-      of_file = w.of_file;
-      plain = w.plain;
-      new = w.new;
-      pins = w.pins;
-      others = above (count_on w.file.number.0 calls) (count_on w.file.number.0 more) (le w.file.number.0) w.others;
-    })
+pub idle_more : (who : Who) (patches : List (Resource × Patch)) (calls more : List (Option Running)) → ((n : ℕ) → count_on n calls ≤ count_on n more) → (x : Option Running) → Idle who patches calls x → Idle who patches more x
+idle_more who patches calls more le None i = tt
+idle_more who patches calls more le (Some r) (inl a) = inl a
+idle_more who patches calls more le (Some r) (inr w) = inr (record { closing = w.closing; others = above (count_on w.closing.file.number.0 calls) (count_on w.closing.file.number.0 more) (le w.closing.file.number.0) w.others })
   where
     above : (n m : ℕ) → n ≤ m → nat_lt 1 n ≡ true → nat_lt 1 m ≡ true
     above n m low e = grind (arith, nat_tests)
 
-pub calls_wait : (c : ℕ) (past : List Line) → AllIdle c past → (slot : ℕ) → Idle (calls_at c past) (call_on slot (calls_at c past))
+-- ---- the slots of a client
+
+pub calls_wait : (c : ℕ) (past : List Line) → AllIdle c past → (slot : ℕ) → Idle (life_at c past) (patches_at c past) (calls_at c past) (call_on slot (calls_at c past))
 calls_wait c past idle zero = idle 0
 calls_wait c past idle (suc zero) = idle 1
 calls_wait c past idle (suc (suc zero)) = idle 2
 calls_wait c past idle (suc (suc (suc zero))) = idle 3
 calls_wait c past idle (suc (suc (suc (suc slot)))) = tt
+
+abbrev pub AllSmall : List ℕ → Type 0
+AllSmall [] = Unit {0}
+AllSmall (slot ∷ slots) = (slot < 4) × AllSmall slots
 
 pub on_small : (c slot : ℕ) (past : List Line) → slot < 4 → call_on slot (calls_at c past) ≡ call_at c slot past
 on_small c zero past b = refl
@@ -218,16 +177,6 @@ on_small c (suc zero) past b = refl
 on_small c (suc (suc zero)) past b = refl
 on_small c (suc (suc (suc zero))) past b = refl
 on_small c (suc (suc (suc (suc slot)))) past b = absurd (omega (arith, b))
-
--- ---- parts of a row that are covered
-
-pub covered_left : (es fs : List Entry) → EntriesCovered (es ++ fs) → EntriesCovered es
-covered_left [] fs c = tt
-covered_left (e ∷ es) fs c = (c.0, covered_left es fs c.1)
-
-pub covered_right : (es fs : List Entry) → EntriesCovered (es ++ fs) → EntriesCovered fs
-covered_right [] fs c = c
-covered_right (e ∷ es) fs c = covered_right es fs c.1
 
 -- ---- what a call does first
 

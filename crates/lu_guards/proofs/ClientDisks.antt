@@ -22,7 +22,7 @@ use Rattle.lu_covered.specs.Heads.{Head}
 use Rattle.lu_covered.specs.TargetCloses.{disk_of, outcome_of, recovering_of, but_first, closing_of, shows, shows_evicted, shows_ready, shows_joined, staying}
 use Rattle.lu_covered.specs.TargetStates.{server_of, lives_of}
 use Rattle.lu_guards.proofs.Guards.{In}
-use Rattle.lu_guards.proofs.StoryGuards.{Due, EntryOf}
+use Rattle.lu_guards.proofs.StoryGuards.{Due, TxnsOk, EntryOf}
 use Rattle.lu_guards.proofs.Grown.{GrownOf}
 use Rattle.lu_guards.proofs.Lists.{turn, in_append, in_filter}
 use Rattle.lu_guards.proofs.CloseLists.{in_with_kept}
@@ -166,8 +166,11 @@ module _ (head : Head) where
 
       by : (node : Node) (e : Entry) → EntryOf head past l.at node e → BareDeeds Log → BareDeeds (server_of head.osts (line (turn l.at.stamp node) e ∷ past)).log
       by (Client c) e ok b x i = b x i
-      by (Target t) (Txn d) ok b x i =
-          ⊎_elim (λ (j : In x Log). b x j) (λ (j : In x (d ∷ [])). ⊎_elim (λ (e : d ≡ x). subst (λ (y : Deed). IsBare y.reply) (sym ok.is ∙ e) refl) (λ (n : ⊥). absurd n) j) (in_append x Log (d ∷ []) i)
+      by (Target t) (Txn d) ok b x i = ⊎_elim (λ (j : In x Log). b x j) (λ (j : In x (d ∷ [])). ⊎_elim (λ (e : d ≡ x). subst (λ (y : Deed). IsBare y.reply) e (made ok)) (λ (n : ⊥). absurd n) j) (in_append x Log (d ∷ []) i)
+        where
+          made : TxnsOk head.osts past l.at t d → IsBare d.reply
+          made (inl k) = subst (λ (y : Deed). IsBare y.reply) (sym k.1.is) refl
+          made (inr k) = subst (λ (y : Deed). IsBare y.reply) (sym k.1.is) refl
       by (Target t) (Commit to batch) ok b x i = b x (in_filter (λ (d : Deed). nat_lt to d.reply.txn.0) x Log i).0
       by (Target t) (Close o) ok b x i = absurd i
       by (Target t) e ok b x i = b x i

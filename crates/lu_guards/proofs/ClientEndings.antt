@@ -18,7 +18,7 @@ use Rattle.lu_words.specs.Carried.{Running}
 use Rattle.lu_words.specs.Words.{Entry, Take, Drop, Told, Life, Line, line, with_turn, same_life}
 use Rattle.lu_words.specs.Concerns.{only}
 use Rattle.lu_words.specs.Sent.{Sent}
-use Rattle.lu_client_rows.specs.Caches.{held_at}
+use Rattle.lu_client_rows.specs.Caches.{held_at, patches_at}
 use Rattle.lu_client_rows.specs.Calls.{calls_at}
 use Rattle.lu_client_rows.specs.Messages.{evicted_heard, comes_by}
 use Rattle.lu_client_rows.specs.Recovery.{joins_all, next_life, ends_call, ends_calls, drops_all}
@@ -37,9 +37,10 @@ use Rattle.lu_guards.proofs.Held.{held_into, held_target, none_there}
 use Rattle.lu_guards.proofs.ClientLocks.{Once, own_name, without_only, without_other, in_ordered, ordered_in, once_ordered}
 use Rattle.lu_guards.proofs.ClientHandles.{new_tied}
 use Rattle.lu_guards.proofs.ClientLines.{SmallOn, small_on, held_once}
-use Rattle.lu_guards.proofs.ClientRests.{Good, Idle, Rested, the_head, adds, at_one, call_line, held_line}
-use Rattle.lu_guards.proofs.ClientStarts.{Starts, After, took_rested}
-use Rattle.lu_guards.proofs.ClientResends.{Still, joins_good}
+use Rattle.lu_guards.proofs.CallStands.{Idle}
+use Rattle.lu_guards.proofs.ClientGood.{Good, Rested, the_head, adds, at_one, call_line, held_line}
+use Rattle.lu_guards.proofs.TurnStarts.{Starts, took_rested}
+use Rattle.lu_guards.proofs.ClientResends.{Still, still_start, joins_good}
 
 module _ (head : table.Head) (c : ℕ) (stamp : Stamp) where
   abbrev at : At
@@ -216,28 +217,19 @@ module _ (head : table.Head) (c : ℕ) (stamp : Stamp) where
 
       still : Still head c stamp (next_life who) p1 p1
       still =
-          record {
-            rested = record {
-              good = good;
-              settled = tt;
-              idle = λ slot. subst (Idle (calls_at c p1)) (sym (b.none slot)) tt;
-              handles = new_tied c stamp p (next_life who);
-            };
-            life = ap (λ (own : Bool). if own then next_life who else life_at c p) (self c);
-            known = λ t. refl;
-            standing = λ t. refl;
-            flights = λ t. refl;
-            kept = λ t. refl;
-            held = refl;
-            took = λ from m k. k;
-          }
+          still_start head c stamp (next_life who) p1 (record {
+            good = good;
+            settled = tt;
+            idle = λ slot. subst (Idle (life_at c p1) (patches_at c p1) (calls_at c p1)) (sym (b.none slot)) tt;
+            handles = new_tied c stamp p (next_life who);
+          }) (ap (λ (own : Bool). if own then next_life who else life_at c p) (self c))
 
       joining : (u : ℕ) → standing_at c u p1 ≡ Joining
       joining u = ap (λ (own : Bool). if own && true then Joining else standing_at c u p) (self c)
 
-  pub evicted_after : (p : List Line) (n t : ℕ) (who : Who) (boot : ℕ) → Starts head c stamp p → Sent p n (Target t) (Client c) (message.Evicted who boot)
-      → After head c stamp (with_turn at (comes_by at (Target t) (message.Evicted who boot) (client_of head c p)) (line at (Take n (Target t) (message.Evicted who boot)) ∷ p))
-  evicted_after p n t who boot s sent = by (same_life who k.who) refl
+  pub evicted_rested : (p : List Line) (n t : ℕ) (who : Who) (boot : ℕ) → Starts head c stamp p → Sent p n (Target t) (Client c) (message.Evicted who boot)
+      → Rested head c at (with_turn at (comes_by at (Target t) (message.Evicted who boot) (client_of head c p)) (line at (Take n (Target t) (message.Evicted who boot)) ∷ p))
+  evicted_rested p n t who boot s sent = by (same_life who k.who) refl
     where
       k : ClientState
       k = client_of head c p
@@ -248,8 +240,8 @@ module _ (head : table.Head) (c : ℕ) (stamp : Stamp) where
       took : Rested head c at p1
       took = took_rested head c stamp p n t (message.Evicted who boot) s sent
 
-      by : (b : Bool) → same_life who k.who ≡ b → After head c stamp (with_turn at (evicted_heard at k b) p1)
-      by false e = inl took
+      by : (b : Bool) → same_life who k.who ≡ b → Rested head c at (with_turn at (evicted_heard at k b) p1)
+      by false e = took
       by true e =
           let own : who ≡ life_at c p = life_is who k.who e in
           let leaving : Leaving (life_at c p) p p1 = record { good = took.good; settled = tt; life = refl; known = λ u. refl; notice = record { target = t; boot = boot; took = inl (refl, refl, ap (λ (w : Who). message.Evicted w boot) own) } } in
@@ -264,4 +256,4 @@ module _ (head : table.Head) (c : ℕ) (stamp : Stamp) where
           drops_good (life_at c p) p hs p2 (once_ordered (held_at c p) (held_once (the_head head c stamp) c p s.grown)) told.leaving told.none
           (λ x i. subst (λ (gs : List HeldLock). In x gs) (sym told.held) (in_ordered x (held_at c p) i))
           (λ x i. ordered_in x (held_at c p) (subst (λ (gs : List HeldLock). In x gs) told.held i)) in
-          inl (subst (Rested head c at) (sym (turn_more at (es ++ ds) more p1 ∙ ap (with_turn at more) (turn_more at es ds p1))) (begins_anew (life_at c p) p p3 bare))
+          subst (Rested head c at) (sym (turn_more at (es ++ ds) more p1 ∙ ap (with_turn at more) (turn_more at es ds p1))) (begins_anew (life_at c p) p p3 bare)

@@ -1,6 +1,5 @@
--- What holds of a client after every line of a covered run: it has changed no object; what it asks of the metadata target is on names, and
--- of another target how long an object is, or a lock to read under; none but the metadata target calls locks back; what it holds is of a
--- target that there is, and no two held locks have one name.
+-- What holds of a client after every line: what it asks of the metadata target is on names, and of another target on an object; targets alone
+-- send it messages; what it holds is of a target that there is, and no two held locks have one name.
 use Rattle.std.proofs.Common.{◌≡◌, ℕ, ◌+◌, ◌<◌, ◌≤◌, Bool, true, false, List, [], ◌∷◌, ◌++◌, ◌⊎◌, inl, inr, ⊎_elim, Option, Some, None, refl, sym, subst, ap, ◌∙◌, arith, pos}
 use Rattle.std.specs.Prelude.{nat_eq, ◌&&◌, if◌then◌else◌}
 use Rattle.std.proofs.lemmas.Bool.{eqb-true, and_parts}
@@ -10,7 +9,6 @@ use Rattle.lu_base.specs.declared.ids.Node.{Node}
 use Rattle.lu_base.specs.declared.ids.Node.TheVariants.{Client, Target}
 use Rattle.lu_base.specs.declared.ids.Who.{Who}
 use Rattle.lu_base.specs.declared.locks.Lock.{Lock}
-use Rattle.lu_base.specs.declared.locks.Mode.TheVariants.{PR}
 use Rattle.lu_part.specs.declared.parts.Want.{Want}
 use Rattle.lu_msg.specs.declared.answers.Answer.{Answer}
 use Rattle.lu_msg.specs.declared.answers.Answer.TheVariants as answer
@@ -29,31 +27,33 @@ use Rattle.lu_held.specs.Names.{same_name}
 use Rattle.lu_held.specs.Locks.{name_of, is_named, after}
 use Rattle.lu_held.specs.Held.{changed}
 use Rattle.lu_machine.specs.Fits.{answer_fits}
+use Rattle.lu_words.specs.declared.changes.Flush.{Flush}
+use Rattle.lu_words.specs.declared.changes.Flush.TheVariants.{Cut, Put}
 use Rattle.lu_words.specs.Carried.{Deed, HandleFile, Outcome, Slot, Queued, Flight, Asking, Asked, Answered, Running}
-use Rattle.lu_words.specs.Words.{Entry, Send, Begin, Heard, Hold, Drop, Told, Life, Queues, Flies, Stands, Pins, Unpins, Marks, Unmarks, Changes, WritesBack, Acks, Act, Txn, Grant, Close, Enters, Take, Line, line, with_turn, is_client}
+use Rattle.lu_words.specs.Words.{Entry, Send, Begin, Heard, Hold, Drop, Told, Life, Queues, Flies, Stands, Pins, Unpins, Marks, Unmarks, Act, Txn, Grant, Wait, Answers, Close, Enters, Take, Line, line, with_turn, is_client}
 use Rattle.lu_words.specs.Concerns.{is_about, concerns, only}
-use Rattle.lu_words.specs.Fields.{on, at_client, at_import}
+use Rattle.lu_words.specs.Fields.{on, at_import}
 use Rattle.lu_words.specs.Sent.{Sent}
 use Rattle.lu_target_rows.specs.Lives.{slot_in}
 use Rattle.lu_target_rows.specs.Names.{locks_from}
-use Rattle.lu_client_rows.specs.Caches.{held_as, brought, granted_lock, reads_held, held_after, held_at, reads_patches, patches_after, patches_at}
+use Rattle.lu_client_rows.specs.Caches.{held_as, brought, granted_lock, reads_held, held_after, held_at}
 use Rattle.lu_client_rows.specs.Messages.{size_with, heeds}
 use Rattle.lu_client_rows.specs.States.{Client as ClientState}
+use Rattle.lu_client_rows.specs.WriteBack.{operation}
 use Rattle.lu_covered.specs.Calls.{asks, asks_for, reads_call, call_after, call_at, operation_of}
-use Rattle.lu_covered.specs.Covered.{IsCovered, AllCovered}
 use Rattle.lu_covered.specs.Heads.{Head}
 use Rattle.lu_covered.specs.Imports.{rest, without_flight, reads_queue, queue_after, queue_at, reads_flights, flights_after, flights_at}
 use Rattle.lu_covered.specs.TargetCloses.{outcome_of}
 use Rattle.lu_covered.specs.TargetParts.{is_slot_of, entered, answered}
 use Rattle.lu_covered.specs.TargetStates.{slot_of}
-use Rattle.lu_guards.proofs.Guards.{In, Was, TookNow, NamesAskOk, SizeAskOk, LockAskOk, QueuesOk, EntryOk}
-use Rattle.lu_guards.proofs.StoryGuards.{ActsOk, GrantsOk, EntryOf, SendOf}
+use Rattle.lu_guards.proofs.Guards.{In, Was, TookNow, NamesAskOk, SizeAskOk, LockAskOk, GetAskOk, QueuesOk, EntryOk}
+use Rattle.lu_guards.proofs.StoryGuards.{HeldOk, GivenOf, ActsOk, TxnsOk, GrantsOk, AnswersOk, EntryOf, SendOf}
 use Rattle.lu_guards.proofs.Grown.{Grown, GrownOf}
 use Rattle.lu_guards.proofs.Lists.{self, in_append, in_filter}
 use Rattle.lu_guards.proofs.Parts.{queue_now}
 use Rattle.lu_guards.proofs.Held.{is_own, client_keeps, held_back}
 use Rattle.lu_guards.proofs.ClientDisks.{bare_in, bare_outcome}
-use Rattle.lu_guards.proofs.Only.{sent_was}
+use Rattle.lu_guards.proofs.Only.{sent_was, was_back}
 use Rattle.lu_guards.proofs.ClientLocks.{names_same, own_name, with_only, brought_only, changed_only, used_only, without_only, unmarked_only, Once, Differ, once_filter, once_changed, once_used, once_unmarked, once_with, once_brought}
 
 -- ---- operations on names
@@ -66,15 +66,31 @@ IsNames (op.Cut resource cookie size) = ⊥
 IsNames (op.Size resource) = ⊥
 IsNames _ = Unit {0}
 
+-- or on an object
+abbrev pub IsOnObject : Op → Type 0
+IsOnObject (op.Enqueue resource mode extent) = Unit {0}
+IsOnObject (op.Get resource cookie page) = Unit {0}
+IsOnObject (op.Put resource cookie offset bytes) = Unit {0}
+IsOnObject (op.Cut resource cookie size) = Unit {0}
+IsOnObject (op.Size resource) = Unit {0}
+IsOnObject _ = ⊥
+
 -- how long an object is
 abbrev pub IsSize : Op → Type 0
 IsSize (op.Size resource) = Unit {0}
 IsSize _ = ⊥
 
--- a lock to read under
+-- a lock on it
 abbrev pub IsLock : Op → Type 0
-IsLock (op.Enqueue resource PR extent) = Unit {0}
+IsLock (op.Enqueue resource mode extent) = Unit {0}
 IsLock _ = ⊥
+
+-- its bytes, or a change of them
+abbrev pub IsBytes : Op → Type 0
+IsBytes (op.Get resource cookie page) = Unit {0}
+IsBytes (op.Put resource cookie offset bytes) = Unit {0}
+IsBytes (op.Cut resource cookie size) = Unit {0}
+IsBytes _ = ⊥
 
 -- an operation of which nothing comes but its answer, and the locks of that
 abbrev pub IsSimple : Op → Type 0
@@ -86,26 +102,28 @@ IsSimple _ = Unit {0}
 
 -- what may be asked of a target
 abbrev pub IsAskedOf : ℕ → Op → Type 0
-IsAskedOf t o = ((t ≡ 0) × IsNames o) ⊎ ((0 < t) × (IsSize o ⊎ IsLock o))
+IsAskedOf t o = ((t ≡ 0) × IsNames o) ⊎ ((0 < t) × IsOnObject o)
 
 names_simple : (o : Op) → IsNames o → IsSimple o
 names_simple (op.Enqueue resource mode extent) n = n
 names_simple (op.Get resource cookie page) n = n
 names_simple (op.Put resource cookie offset bytes) n = n
 names_simple (op.Cut resource cookie size) n = n
+names_simple (op.Size resource) n = tt
 names_simple o n = tt
 
-size_simple : (o : Op) → IsSize o → IsSimple o
-size_simple (op.Size resource) n = tt
-size_simple (op.Enqueue resource mode extent) n = n
-size_simple (op.Get resource cookie page) n = n
-size_simple (op.Put resource cookie offset bytes) n = n
-size_simple (op.Cut resource cookie size) n = n
-size_simple o n = tt
+-- which of them
+pub object_parts : (o : Op) → IsOnObject o → IsSimple o ⊎ IsLock o ⊎ IsBytes o
+object_parts (op.Enqueue resource mode extent) n = inr (inl tt)
+object_parts (op.Get resource cookie page) n = inr (inr tt)
+object_parts (op.Put resource cookie offset bytes) n = inr (inr tt)
+object_parts (op.Cut resource cookie size) n = inr (inr tt)
+object_parts (op.Size resource) n = inl tt
+object_parts o n = absurd n
 
-pub asked_simple : (t : ℕ) (o : Op) → IsAskedOf t o → IsSimple o ⊎ ((0 < t) × IsLock o)
-asked_simple t o (inl a) = inl (names_simple o a.1)
-asked_simple t o (inr a) = ⊎_elim (λ (s : IsSize o). inl (size_simple o s)) (λ (l : IsLock o). inr (a.0, l)) a.1
+pub asked_parts : (t : ℕ) (o : Op) → IsAskedOf t o → IsSimple o ⊎ ((0 < t) × (IsLock o ⊎ IsBytes o))
+asked_parts t o (inl a) = inl (names_simple o a.1)
+asked_parts t o (inr a) = ⊎_elim (λ (s : IsSimple o). inl s) (λ (l : IsLock o ⊎ IsBytes o). inr (a.0, l)) (object_parts o a.1)
 
 pub asked_names : (o : Op) → IsAskedOf 0 o → IsNames o
 asked_names o (inl a) = a.1
@@ -158,28 +176,9 @@ heeds_nothing t f (op.Put resource cookie offset bytes) r a k n = absurd n
 heeds_nothing t f (op.Cut resource cookie size) r a k n = absurd n
 heeds_nothing t f o r a k n = refl
 
--- ---- fields that no covered line changes
-
 pub on_other : {A : Type 0} (r : Bool) (new old : A) → on r false new old ≡ old
 on_other true new old = refl
 on_other false new old = refl
-
-still_client : {A : Type 0} (reads : Entry → Bool) (after : A → Entry → A) (start : A) (c : ℕ) → ((e : Entry) → IsCovered e → (own : Bool) → on (reads e) own (after start e) start ≡ start)
-    → (past : List Line) → AllCovered past → at_client reads after start c past ≡ start
-still_client reads after start c f [] a = refl
-still_client {A} reads after start c f (l ∷ past) a =
-    ap (λ (x : A). on (reads l.entry) (is_client c l.at.node) (after x l.entry) x) (still_client reads after start c f past a.1) ∙ f l.entry a.0 (is_client c l.at.node)
-
-pub patches_none : (c : ℕ) (past : List Line) → AllCovered past → patches_at c past ≡ []
-patches_none c past a = still_client reads_patches patches_after [] c by past a
-  where
-    by : (e : Entry) → IsCovered e → (own : Bool) → on (reads_patches e) own (patches_after [] e) [] ≡ []
-    by (Changes r f) k own = absurd k
-    by (WritesBack r f) k own = absurd k
-    by (Acks r) k own = absurd k
-    by (Life who) k true = refl
-    by (Life who) k false = refl
-    by e k own = refl
 
 -- ---- what each line of the client keeps
 
@@ -213,12 +212,21 @@ pub of_target : (P : ℕ → Type 0) (t u : ℕ) → nat_eq t u ≡ true → P u
 of_target P t u e p = subst P (sym (eqb-true t u e)) p
 
 queues_asked : (past : List Line) (c u : ℕ) (q : Queued) → QueuesOk past c u q → IsAskedOf u q.op
-queues_asked past c u q ok = by ok.asks
+queues_asked past c u q ok = by ok
   where
-    by : NamesAskOk past c u ok.running q.op ⊎ SizeAskOk u ok.running q.op ⊎ LockAskOk u ok.running q.op → IsAskedOf u q.op
-    by (inl a) = inl (a.names, becomes_names ok.running.file ok.running.call q.op a.becomes)
-    by (inr (inl a)) = inr (a.object, inl (subst IsSize (sym a.of_op) tt))
-    by (inr (inr a)) = inr (a.object, inr (subst IsLock (sym a.of_op) tt))
+    call : (r : Running) → NamesAskOk past c u r q.op ⊎ SizeAskOk u r q.op ⊎ LockAskOk u r q.op ⊎ GetAskOk past c u r q.op → IsAskedOf u q.op
+    call r (inl a) = inl (a.names, becomes_names r.file r.call q.op a.becomes)
+    call r (inr (inl a)) = inr (a.object, subst IsOnObject (sym a.of_op) tt)
+    call r (inr (inr (inl a))) = inr (a.object, subst IsOnObject (sym a.of_op) tt)
+    call r (inr (inr (inr a))) = inr (a.object, subst IsOnObject (sym a.of_op) tt)
+
+    back : (h : HeldLock) (change : Flush) → IsOnObject (operation h.lock.resource h.lock.cookie change)
+    back h (Put offset bytes) = tt
+    back h (Cut size) = tt
+
+    by : QueuesOk past c u q → IsAskedOf u q.op
+    by (inl a) = call a.running a.asks
+    by (inr a) = inr (a.object, subst IsOnObject (sym a.of_op) (back a.holding a.change))
 
 pub queue_asked : (head : Head) (c t : ℕ) (past : List Line) → Grown head past → (q : Queued) → In q (queue_at c t past) → IsAskedOf t q.op
 queue_asked head c t past g =
@@ -363,9 +371,11 @@ held_limited osts head c (l ∷ past) g a h i = by (reads_held l.entry) (is_clie
         ⊎_elim (λ (s : (m : Lock) × (held_as t m false ≡ x)). subst (λ (y : HeldLock). y.target.0 ≤ osts) s.1 (took_there osts head past l.at t (message.Reply r) g.1 a.1 ok.1)) (λ (j : In x X). k x j)
         (brought_only t x (brought f.op r) X i)
     step (Hold t m marked size seen) ok of k x i =
-        ⊎_elim
-        (λ (s : held_as t m marked ≡ x). subst (λ (y : HeldLock). y.target.0 ≤ osts) s (k (held_as t m false) (held_back c t past (held_as t m false) (of t (self t)).1.held).0))
-        (λ (j : In x X). k x j) (with_only (held_as t m marked) x X i)
+        ⊎_elim (λ (s : held_as t m marked ≡ x). subst (λ (y : HeldLock). y.target.0 ≤ osts) s (low (of t (self t)))) (λ (j : In x X). k x j) (with_only (held_as t m marked) x X i)
+      where
+        low : ((marked ≡ false) × HeldOk (only t past) c t m seen) ⊎ GivenOf (only t past) c t m seen → t ≤ osts
+        low (inl h) = k (held_as t m false) (held_back c t past (held_as t m false) h.1.held).0
+        low (inr h) = was_there osts t (Client c) (message.Grant h.notice) past a.1 (was_back t past (Target t) (Client c) (message.Grant h.notice) h.was)
     step (Drop t m) ok of k x i = k x (without_only _ x X i).0
     step (Pins n) ok of k x i = changes n change.Pin k x i
     step (Unpins n) ok of k x i = changes n change.Unpin k x (used_only n x (changed n change.Unpin X) i)
@@ -386,10 +396,12 @@ held_limited osts head c (l ∷ past) g a h i = by (reads_held l.entry) (is_clie
 
 -- ---- what comes to it
 
--- calls for locks come from the metadata target
+-- messages for clients come from targets
 abbrev pub ComesTo : Node → Message → Type 0
 ComesTo (Target t) (message.Reply r) = Unit {0}
-ComesTo (Target t) (message.Block who boot cookie) = t ≡ 0
+ComesTo (Target t) (message.Grant g) = Unit {0}
+ComesTo (Target t) (message.Block who boot cookie) = Unit {0}
+ComesTo (Target t) (message.Ask who boot cookie for_who xid) = Unit {0}
 ComesTo (Target t) (message.Ready who boot committed) = Unit {0}
 ComesTo (Target t) (message.Evicted who boot) = Unit {0}
 ComesTo (Target t) (message.Up boot) = Unit {0}
@@ -401,7 +413,9 @@ comes_to head (l ∷ past) from c m g w = by l.entry w g.0.ok (λ v. comes_to he
   where
     sends : (node : Node) (m : Message) → EntryOk past l.at node (Send (Client c) m) → ComesTo node m
     sends (Target t) (message.Reply r) ok = tt
-    sends (Target t) (message.Block who boot cookie) ok = ok
+    sends (Target t) (message.Grant g) ok = tt
+    sends (Target t) (message.Block who boot cookie) ok = tt
+    sends (Target t) (message.Ask who boot cookie for_who xid) ok = tt
     sends (Target t) (message.Ready who boot committed) ok = tt
     sends (Target t) (message.Evicted who boot) ok = tt
     sends (Target t) (message.Up boot) ok = tt
@@ -448,6 +462,20 @@ kept_differ head who tag (l ∷ past) g = by (λ w u k e. kept_differ head w u p
     acted t d (inl a) = subst (λ (x : Deed). Differ x.reply.locks) (sym a.1.is) (from_differ _ _ _)
     acted t d (inr a) = subst (λ (x : Deed). Differ x.reply.locks) (sym a.1.is) tt
 
+    bare : (d e : Deed) → d ≡ e → e.reply.locks ≡ [] → Differ d.reply.locks
+    bare d e is none = subst (λ (x : Deed). Differ x.reply.locks) (sym is) (subst Differ (sym none) tt)
+
+    made : (t : ℕ) (d : Deed) → TxnsOk head.osts past l.at t d → Differ d.reply.locks
+    made t d (inl a) = bare d _ a.1.is refl
+    made t d (inr a) = bare d _ a.1.is refl
+
+    answers : (t : ℕ) (d : Deed) → AnswersOk head.osts past l.at t d → Differ d.reply.locks
+    answers t d (inl a) = bare d _ a.is refl
+    answers t d (inr (inl a)) = bare d _ a.is refl
+    answers t d (inr (inr (inl a))) = bare d _ a.is refl
+    answers t d (inr (inr (inr (inl a)))) = bare d _ a.is refl
+    answers t d (inr (inr (inr (inr a)))) = bare d _ a.is refl
+
     -- of what was done just before, whose reply is in its slot; or of an object
     granted : Others → (t : ℕ) (lock : Lock) (d : Deed) → GrantsOk head.osts past l.at t lock d → Differ d.reply.locks
     granted other t lock d (inl k) = other d.reply.who d.tag d.reply k.1.slot
@@ -458,9 +486,9 @@ kept_differ head who tag (l ∷ past) g = by (λ w u k e. kept_differ head w u p
     by other (Target t) (Act d) ok f =
         chosen (is_slot_of who tag d.reply.who d.tag) (answered d S)
         (λ k e. subst (λ (r : ReplyTo). Differ r.locks) (some_is d.reply k e) (acted t d ok)) f
-    by other (Target t) (Txn d) ok f =
-        chosen (is_slot_of who tag d.reply.who d.tag) (answered d S)
-        (λ k e. subst (λ (r : ReplyTo). Differ r.locks) (some_is d.reply k e) (subst (λ x. Differ x.reply.locks) (sym ok.is) tt)) f
+    by other (Target t) (Txn d) ok f = chosen (is_slot_of who tag d.reply.who d.tag) (answered d S) (λ k e. subst (λ (r : ReplyTo). Differ r.locks) (some_is d.reply k e) (made t d ok)) f
+    by other (Target t) (Wait lock d) ok f = chosen (is_slot_of who tag d.reply.who d.tag) (answered d S) (λ k e. subst (λ (r : ReplyTo). Differ r.locks) (some_is d.reply k e) (bare d _ ok.1.is refl)) f
+    by other (Target t) (Answers d) ok f = chosen (is_slot_of who tag d.reply.who d.tag) (answered d S) (λ k e. subst (λ (r : ReplyTo). Differ r.locks) (some_is d.reply k e) (answers t d ok.1)) f
     by other (Target t) (Grant lock (Some d)) ok f =
         chosen (is_slot_of who tag d.reply.who d.tag) (answered d S) (λ k e. subst (λ (r : ReplyTo). Differ r.locks) (some_is d.reply k e) (granted other t lock d ok)) f
     by other (Target t) (Close o) ok f = λ k e. subst Differ (sym (bare_in (outcome_of head.osts head.clients l.at past).disk.slots who tag k (bare_outcome head l.at past g.3) (ap (λ (x : Outcome). (slot_in x.disk.slots who tag).reply) (sym ok.is) ∙ e))) tt

@@ -1,21 +1,21 @@
--- How a read, or a stat of a file, looks for its locks, by the rows: what it wants of each object, which held lock serves it, and what it finds
--- where no byte is: nothing is missing under locks to the end of empty objects, a read never reaches, and the file has no size.
-use Rattle.std.proofs.Common.{◌≡◌, ℕ, suc, ◌+◌, ◌-◌, ◌/◌, Bool, true, false, List, [], ◌∷◌, ◌++◌, ◌⊎◌, inl, inr, ⊎_elim, Option, Some, None, refl, sym, subst, ap, ◌∙◌, arith}
-use Rattle.std.specs.Prelude.{nat_eq, nat_lt, ◌&&◌, not, min, if◌then◌else◌, map, slice_get}
-use Rattle.std.proofs.lemmas.Bool.{and_parts, cond_both, cond-true, eqb-true, not-true}
+-- How a call on bytes looks for its locks, by the rows: what it wants of each object, which is a range in order, and which held lock serves it.
+use Rattle.std.proofs.Common.{◌≡◌, ℕ, zero, suc, ◌+◌, ◌-◌, ◌*◌, ◌/◌, ◌%◌, ◌<◌, ◌≤◌, Bool, true, false, List, [], ◌∷◌, ◌⊎◌, inl, inr, ⊎_elim, Option, Some, None, refl, sym, subst, ap, ◌∙◌, arith}
+use Rattle.std.specs.Prelude.{nat_eq, nat_lt, ◌&&◌, not, if◌then◌else◌, length, map, slice_get}
+use Rattle.std.proofs.Math.Nat.{mul-le-mul_right, le-mul_of_pos_right, div-zero, div-le_self}
+use Rattle.std.proofs.lemmas.Nat.{div-add-mod'}
+use Rattle.std.proofs.lemmas.Bool.{and_parts, eqb-true, not-true}
 use Rattle.std.proofs.lemmas.Bool.Decides.{nat_tests}
 use Rattle.lu_base.specs.declared.ids.Fid.{Fid}
 use Rattle.lu_base.specs.declared.locks.Extent.{Extent}
-use Rattle.lu_base.specs.declared.locks.Lock.{Lock}
 use Rattle.lu_base.specs.declared.locks.Mode.{Mode}
-use Rattle.lu_base.specs.declared.locks.Mode.TheVariants.{PR}
+use Rattle.lu_base.specs.declared.locks.Mode.TheVariants.{PR, PW}
 use Rattle.lu_base.specs.declared.locks.Policy.{Policy}
 use Rattle.lu_base.specs.declared.locks.Policy.TheVariants.{Bits, Range}
 use Rattle.lu_base.specs.declared.locks.Resource.{Resource}
-use Rattle.lu_layout.specs.Raid0.{Raid0, stripe_of, offset_of, greatest_end}
+use Rattle.lu_layout.specs.Raid0.{Raid0, stripe_of, offset_of}
+use Rattle.lu_lock.specs.Growth.{the_end}
 use Rattle.lu_lock.specs.Modes.{serves}
 use Rattle.lu_lock.specs.Overlap.{covers}
-use Rattle.lu_msg.specs.declared.answers.Answer.TheVariants as answer
 use Rattle.lu_msg.specs.declared.operations.Op.TheVariants as op
 use Rattle.lu_held.specs.declared.locks.HeldLock.{HeldLock}
 use Rattle.lu_held.specs.declared.locks.Use.{Use}
@@ -23,52 +23,122 @@ use Rattle.lu_held.specs.declared.locks.Wanted.TheVariants.{Serving, ServingToTh
 use Rattle.lu_held.specs.Locks.{same_resource, reaches_end, is_for, serves_use, matches}
 use Rattle.lu_held.specs.Held.{in_order, those, serving}
 use Rattle.lu_words.specs.declared.uses.Using.{Using}
-use Rattle.lu_words.specs.Carried.{Kind, Narrow, Wide, Stats, Work, Running}
+use Rattle.lu_words.specs.Carried.{Kind, Narrow, Wide, Writes, Cuts, Stats, Glimpses, Work}
 use Rattle.lu_words.specs.Words.{Entry, Line}
-use Rattle.lu_base.specs.declared.ids.At.{At}
-use Rattle.lu_client_rows.specs.Advances.{unpins, enqueue_of, tells, reads_wide, widened, reads_narrow, looks, acts}
-use Rattle.lu_client_rows.specs.Bytes.{page_size}
-use Rattle.lu_client_rows.specs.Caches.{patch_at, bytes_at}
-use Rattle.lu_client_rows.specs.Looks.{size_under, first_missing, end_under, missing_under, missing, content, size_on, file_size, reached_under, has_reached}
-use Rattle.lu_client_rows.specs.States.{Client as ClientState, Store, store_turn, after, turn as turn_of}
+use Rattle.lu_client_rows.specs.Advances.{enqueue_of}
+use Rattle.lu_client_rows.specs.States.{Client as ClientState, store_turn, after, turn as turn_of}
+use Rattle.lu_client_rows.specs.Patches.{to_end, cut_extent}
 use Rattle.lu_client_rows.specs.Stripes.{below_on, stripes}
-use Rattle.lu_client_rows.specs.Wants.{want, wants_run, wants_rest, wants_of}
-use Rattle.lu_covered.specs.Covered.{IsReading}
+use Rattle.lu_client_rows.specs.Wants.{want, wants_run, wants_rest, wants_cut, wants_of}
 use Rattle.lu_guards.proofs.Guards.{HasRange, In, InOrder, LacksOf}
 use Rattle.lu_guards.proofs.Lists.{in_append, in_right, in_filter}
 use Rattle.lu_guards.proofs.ClientLocks.{in_map, in_ordered}
 
--- ---- what a read wants
+-- ---- how far offsets of an object go
 
--- a lock to read under, on a range of bytes
-pub record ReadUse (x : Use) : Type 0 where
-  pub mode : x.mode ≡ PR
+raised : (q u size : ℕ) → q + 1 ≤ u → q * size + size ≤ u * size
+raised q u size le = let m : (q + 1) * size ≤ u * size = mul-le-mul_right size le in let e : (q + 1) * size ≡ q * size + size = omega arith in omega (arith, m, e)
+
+-- one that lies past the first stripe is of a later round
+later_round : (u k : ℕ) → 0 < u % k → u / k + 1 ≤ u
+later_round u zero more = let d : u / 0 ≡ 0 = div-zero u in let m : u / 0 * 0 + u % 0 ≡ u = div-add-mod' u 0 in omega (arith, d, m, more)
+later_round u (suc k) more =
+    let m : u / suc k * suc k + u % suc k ≡ u = div-add-mod' u (suc k) in
+    let e : u / suc k ≤ u / suc k * suc k = le-mul_of_pos_right (u / suc k) (omega arith) in
+    omega (arith, m, e, more)
+
+-- no more offsets of a stripe than positions lie below one
+pub below_low : (l : Raid0) (i n : ℕ) → below_on l i n ≤ n
+unfolding stripe_of offset_of
+below_low l i n = by (nat_lt i (n / l.size % length l.targets)) (nat_eq i (n / l.size % length l.targets)) refl
+  where
+    u : ℕ
+    u = n / l.size
+
+    k : ℕ
+    k = length l.targets
+
+    parts : u * l.size + n % l.size ≡ n
+    parts = div-add-mod' n l.size
+
+    low : u / k * l.size ≤ u * l.size
+    low = mul-le-mul_right l.size (div-le_self u k)
+
+    some : (a b : ℕ) → nat_lt a b ≡ true → 0 < b
+    some a b e = grind (arith, nat_tests, e)
+
+    by : (v w : Bool) → nat_lt i (u % k) ≡ v
+        → (if v then u / k * l.size + n % l.size - n % l.size + l.size else if w then u / k * l.size + n % l.size else u / k * l.size + n % l.size - n % l.size) ≤ n
+    by true w e = let r : u / k * l.size + l.size ≤ u * l.size = raised (u / k) u l.size (later_round u k (some i (u % k) e)) in omega (arith, r, parts)
+    by false true e = omega (arith, low, parts)
+    by false false e = omega (arith, low, parts)
+
+-- ---- what a call wants
+
+-- a lock on a range of bytes in order, to read under or, where it changes bytes, to write under
+pub record ByteUse (x : Use) : Type 0 where
   pub extent : Extent
   pub policy : x.policy ≡ Range extent
+  pub first : extent.first ≤ extent.last
+  pub last : extent.last ≤ the_end
 
-abbrev want_reads : (l : Raid0) (fid : Fid) (i : ℕ) (extent : Extent) (x : Use) → want l fid PR i extent ≡ x → ReadUse x
-want_reads l fid i extent x e = record { mode = ap (λ (u : Use). u.mode) (sym e); extent = extent; policy = ap (λ (u : Use). u.policy) (sym e) }
+-- the mode in which a call of that kind uses locks
+abbrev pub mode_of : Kind → Mode
+mode_of (Writes offset bytes) = PW
+mode_of (Cuts size) = PW
+mode_of kind = PR
 
-abbrev run_reads : (l : Raid0) (fid : Fid) (p end : ℕ) (is : List ℕ) (x : Use) → In x (wants_run l fid PR p end is) → ReadUse x
-run_reads l fid p end [] x i = absurd i
-run_reads l fid p end (s ∷ is) x i = by (nat_lt (below_on l s p) (below_on l s end)) i (run_reads l fid p end is x)
+-- its positions are those of a file
+abbrev pub IsShort : Kind → Type 0
+IsShort (Narrow p n) = p + n ≤ the_end
+IsShort (Wide p n) = p + n ≤ the_end
+IsShort (Writes p bytes) = p + length bytes ≤ the_end
+IsShort (Cuts n) = n ≤ the_end
+IsShort _ = Unit {0}
+
+abbrev pub WantsOk : Mode → Use → Type 0
+WantsOk mode x = ByteUse x × (x.mode ≡ mode)
+
+want_ok : (l : Raid0) (fid : Fid) (mode : Mode) (i : ℕ) (extent : Extent) (x : Use) → extent.first ≤ extent.last → extent.last ≤ the_end → want l fid mode i extent ≡ x → WantsOk mode x
+want_ok l fid mode i extent x first last e = (record { extent = extent; policy = ap (λ (u : Use). u.policy) (sym e); first = first; last = last }, ap (λ (u : Use). u.mode) (sym e))
+
+run_ok : (l : Raid0) (fid : Fid) (mode : Mode) (p end : ℕ) (is : List ℕ) (x : Use) → end ≤ the_end → In x (wants_run l fid mode p end is) → WantsOk mode x
+run_ok l fid mode p end [] x short i = absurd i
+run_ok l fid mode p end (s ∷ is) x short i = by (nat_lt (below_on l s p) (below_on l s end)) refl i (run_ok l fid mode p end is x short)
   where
-    by : (b : Bool) → In x (if b then want l fid PR s (record { first = below_on l s p; last = below_on l s end - 1 }) ∷ wants_run l fid PR p end is else wants_run l fid PR p end is)
-        → (In x (wants_run l fid PR p end is) → ReadUse x) → ReadUse x
-    by true (inl e) more = want_reads l fid s (record { first = below_on l s p; last = below_on l s end - 1 }) x e
-    by true (inr j) more = more j
-    by false j more = more j
+    in_order : (a b : ℕ) → nat_lt a b ≡ true → a ≤ b - 1
+    in_order a b e = grind (arith, nat_tests, e)
 
-abbrev rest_reads : (l : Raid0) (fid : Fid) (p : ℕ) (is : List ℕ) (x : Use) → In x (wants_rest l fid p is) → ReadUse x
-rest_reads l fid p [] x i = absurd i
-rest_reads l fid p (s ∷ is) x (inl e) = want_reads l fid s _ x e
-rest_reads l fid p (s ∷ is) x (inr i) = rest_reads l fid p is x i
+    under : (b e : ℕ) → b ≤ e → e ≤ the_end → b - 1 ≤ the_end
+    under b e low short = omega (arith, low, short)
 
-abbrev pub wants_read : (l : Raid0) (fid : Fid) (kind : Kind) → IsReading kind → (x : Use) → In x (wants_of l fid kind) → ReadUse x
-wants_read l fid (Narrow p n) k x i = run_reads l fid p (p + n) (stripes l) x i
-wants_read l fid (Wide p n) k x i = rest_reads l fid p (stripes l) x i
-wants_read l fid (Stats mode links) k x i = rest_reads l fid 0 (stripes l) x i
-wants_read l fid kind k x i = absurd k
+    by : (b : Bool) → nat_lt (below_on l s p) (below_on l s end) ≡ b → In x (if b then want l fid mode s (record { first = below_on l s p; last = below_on l s end - 1 }) ∷ wants_run l fid mode p end is else wants_run l fid mode p end is)
+        → (In x (wants_run l fid mode p end is) → WantsOk mode x) → WantsOk mode x
+    by true q (inl e) more =
+        want_ok l fid mode s (record { first = below_on l s p; last = below_on l s end - 1 }) x (in_order (below_on l s p) (below_on l s end) q) (under (below_on l s end) end (below_low l s end) short) e
+    by true q (inr j) more = more j
+    by false q j more = more j
+
+low_end : (l : Raid0) (s p : ℕ) → p ≤ the_end → below_on l s p ≤ the_end
+low_end l s p short = let low = below_low l s p in omega (arith, low, short)
+
+rest_ok : (l : Raid0) (fid : Fid) (p : ℕ) (is : List ℕ) (x : Use) → p ≤ the_end → In x (wants_rest l fid p is) → WantsOk PR x
+rest_ok l fid p [] x short i = absurd i
+rest_ok l fid p (s ∷ is) x short (inl e) = want_ok l fid PR s (to_end (below_on l s p)) x (low_end l s p short) (omega arith) e
+rest_ok l fid p (s ∷ is) x short (inr i) = rest_ok l fid p is x short i
+
+cut_ok : (l : Raid0) (fid : Fid) (n : ℕ) (is : List ℕ) (x : Use) → n ≤ the_end → In x (wants_cut l fid n is) → WantsOk PW x
+cut_ok l fid n [] x short i = absurd i
+cut_ok l fid n (s ∷ is) x short (inl e) = want_ok l fid PW s (cut_extent (below_on l s n)) x (let low = low_end l s n short in omega (arith, low)) (omega arith) e
+cut_ok l fid n (s ∷ is) x short (inr i) = cut_ok l fid n is x short i
+
+pub wants_ok : (l : Raid0) (fid : Fid) (kind : Kind) → IsShort kind → (x : Use) → In x (wants_of l fid kind) → WantsOk (mode_of kind) x
+wants_ok l fid (Narrow p n) k x i = run_ok l fid PR p (p + n) (stripes l) x k i
+wants_ok l fid (Wide p n) k x i = rest_ok l fid p (stripes l) x (omega (arith, k)) i
+wants_ok l fid (Writes p bytes) k x i = run_ok l fid PW p (p + length bytes) (stripes l) x k i
+wants_ok l fid (Cuts n) k x i = cut_ok l fid n (stripes l) x k i
+wants_ok l fid (Stats mode links) k x i = rest_ok l fid 0 (stripes l) x (omega arith) i
+wants_ok l fid (Glimpses sizes) k x i = rest_ok l fid 0 (stripes l) x (omega arith) i
 
 -- each object that is left is one of those, and each of those has its lock in use, or is left
 pub wanted_in : (all : List Use) (w : Work) → InOrder all w → (x : Use) → In x w.left → In x all
@@ -83,10 +153,8 @@ used_or_left all w order x i =
     (in_append x (map (λ (u : Using). u.want) w.used) w.left (subst (λ (us : List Use). In x us) order i))
 
 -- it asks for that lock
-pub enqueues : (x : Use) (r : ReadUse x) → enqueue_of x ≡ op.Enqueue x.resource PR r.extent
-enqueues x r =
-    ap (λ (q : Policy). elim q [ Range extent ↦ op.Enqueue x.resource x.mode extent | Bits bits ↦ op.Size x.resource ]) r.policy
-    ∙ ap (λ (m : Mode). op.Enqueue x.resource m r.extent) r.mode
+pub enqueues : (x : Use) (b : ByteUse x) → enqueue_of x ≡ op.Enqueue x.resource x.mode b.extent
+enqueues x b = ap (λ (q : Policy). elim q [ Range extent ↦ op.Enqueue x.resource x.mode extent | Bits bits ↦ op.Size x.resource ]) b.policy
 
 -- ---- a held lock that serves
 
@@ -138,76 +206,6 @@ serves_so wanted h range e =
       unmarked = not-true h.marked b.1;
       ranged = covers_range h.lock.ask.policy wanted.policy range a.1;
     }
-
--- ---- where no byte is
-
--- each object is empty under each lock
-abbrev pub IsEmpty : Store → Type 0
-IsEmpty s = (l : Lock) → size_under l s ≡ 0
-
--- the locks in use reach the end
-abbrev pub AllEnd : List Using → Type 0
-AllEnd us = (u : Using) → In u us → reaches_end u.lock.ask.policy ≡ true
-
-nothing : (end first : ℕ) → min end 0 - first ≡ 0
-nothing end first = grind arith
-
-none_under : (l : Lock) (first end : ℕ) (s : Store) → IsEmpty s → reaches_end l.ask.policy ≡ true → missing_under l first end s ≡ None
-none_under l first end s empty ends = ap (first_missing (bytes_at l.resource s.bytes) (patch_at l.resource s.patches).dirty first) so
-  where
-    so : end_under l end s - first ≡ 0
-    so = ap (λ (n : ℕ). n - first) (cond-true (reaches_end l.ask.policy) (min end (size_under l s)) end ends ∙ ap (min end) (empty l)) ∙ nothing end first
-
-pub none_missing : (l : Raid0) (p end : ℕ) (s : Store) (us : List Using) → IsEmpty s → AllEnd us → missing l p end s us ≡ None
-none_missing l p end s [] empty ends = refl
-none_missing l p end s (u ∷ us) empty ends =
-    ap (λ (o : Option ℕ). elim o [ None ↦ missing l p end s us | Some offset ↦ Some (record { under = u; page = offset / page_size }) ])
-    (none_under u.lock (below_on l u.want.resource.stripe p) (below_on l u.want.resource.stripe end) s empty (ends u (inl refl)))
-    ∙ none_missing l p end s us empty (λ v i. ends v (inr i))
-
-above_none : (q : ℕ) → nat_lt q 0 ≡ false
-above_none q = grind (arith, nat_tests)
-
-not_under : (q : ℕ) (u : Using) (s : Store) → IsEmpty s → reaches_end u.lock.ask.policy ≡ true → reached_under q u s ≡ false
-not_under q u s empty ends = cond-true (reaches_end u.lock.ask.policy) (nat_lt q (size_under u.lock s)) _ ends ∙ ap (nat_lt q) (empty u.lock) ∙ above_none q
-
-pub not_reached : (l : Raid0) (e : ℕ) (us : List Using) (s : Store) → IsEmpty s → AllEnd us → has_reached l e us s ≡ false
-not_reached l e [] s empty ends = refl
-not_reached l e (u ∷ us) s empty ends =
-    cond_both (nat_eq u.want.resource.stripe (stripe_of l e)) (reached_under (offset_of l e) u s) (has_reached l e us s) (λ (b : Bool). b ≡ false) (λ t. not_under (offset_of l e) u s empty (ends u (inl refl)))
-    (λ t. not_reached l e us s empty (λ v i. ends v (inr i)))
-
-no_size_on : (i : ℕ) (us : List Using) (s : Store) → IsEmpty s → size_on i us s ≡ 0
-no_size_on i [] s empty = refl
-no_size_on i (u ∷ us) s empty = cond_both (nat_eq u.want.resource.stripe i) (size_under u.lock s) (size_on i us s) (λ (n : ℕ). n ≡ 0) (λ t. empty u.lock) (λ t. no_size_on i us s empty)
-
-no_end : (l : Raid0) (us : List Using) (s : Store) → IsEmpty s → (stripe : ℕ) (is : List ℕ) → greatest_end l stripe (map (λ i. size_on i us s) is) ≡ 0
-unfolding greatest_end
-no_end l us s empty stripe [] = refl
-no_end l us s empty stripe (i ∷ is) = rw (no_size_on i us s empty, no_end l us s empty (suc stripe) is) refl
-
-no_file_size : (l : Raid0) (is : List ℕ) (us : List Using) (s : Store) → IsEmpty s → file_size l is us s ≡ 0
-no_file_size l is us s empty = no_end l us s empty 0 is
-
-cut_short : (n p : ℕ) → min n (0 - p) ≡ 0
-cut_short n p = grind arith
-
--- so a read to the end is told no bytes
-pub wide_so : (at : At) (slot p n : ℕ) (r : Running) (w : Work) (s : Store) → IsEmpty s → AllEnd w.used → reads_wide at slot p n r w s ≡ tells slot r at (answer.Content []) (Some w)
-wide_so at slot p n r w s empty ends =
-    rw (none_missing w.layout p (p + n) s w.used empty ends, reads_wide)
-    (ap (λ (k : ℕ). tells slot r at (answer.Content (content w.layout w.fid s p k)) (Some w)) (ap (λ (k : ℕ). min n (k - p)) (no_file_size w.layout (stripes w.layout) w.used s empty) ∙ cut_short n p))
-
--- and a narrow one asks to the end
-abbrev pub wide_goes : At → ℕ → ℕ → ℕ → Running → Work → Store → List Entry
-wide_goes at slot p n r w s = looks slot (reads_wide at slot p n) (widened p n w).left (record r { pins = [] }) (widened p n w) s
-
-pub narrow_so : (at : At) (slot p n : ℕ) (r : Running) (w : Work) (s : Store) → IsEmpty s → AllEnd w.used → reads_narrow at slot p n r w s ≡ unpins r.pins ++ wide_goes at slot p n r w (store_turn s (unpins r.pins))
-narrow_so at slot p n r w s empty ends = rw (none_missing w.layout p (p + n) s w.used empty ends, not_reached w.layout (p + n - 1) w.used s empty ends, reads_narrow) refl
-
--- and a stat is told no size
-pub stat_so : (at : At) (slot mode links : ℕ) (r : Running) (w : Work) (s : Store) → IsEmpty s → acts at slot (Stats mode links) r w s ≡ tells slot r at (answer.FileSize w.fid mode links 0) (Some w)
-stat_so at slot mode links r w s empty = ap (λ (n : ℕ). tells slot r at (answer.FileSize w.fid mode links n) (Some w)) (no_file_size w.layout (stripes w.layout) w.used s empty)
 
 -- ---- what is left of the store by entries is left of the client
 

@@ -1,18 +1,19 @@
--- The turns of a client in a covered run in which a target answers it or calls a lock back: a reply to what is in flight is heard, its locks are
--- shown and its fact is learned, where it has any, and the call that it answers is to be told, or goes on; so is a read, or a stat, whose lock came.
--- A lock that is called back is marked, or given back where it isn't held.
-use Rattle.std.proofs.Common.{◌≡◌, ℕ, ◌<◌, ◌≤◌, Bool, true, false, List, [], ◌∷◌, ◌++◌, ◌⊎◌, inl, inr, ⊎_elim, Option, Some, None, refl, sym, subst, ap, ◌∙◌, arith}
-use Rattle.std.specs.Prelude.{nat_eq, if◌then◌else◌}
+-- The turns of a client in a covered run in which a target answers it: once the reply is heard, the call that it answers is to be told, or goes
+-- on; a lock that was asked for came, or is waited for; the page that was fetched, or the change that was written back, is marked.
+use Rattle.std.proofs.Common.{◌≡◌, ℕ, ◌+◌, ◌*◌, ◌<◌, ◌≤◌, Bool, true, false, List, [], ◌∷◌, ◌++◌, ◌⊎◌, inl, inr, ⊎_elim, Option, Some, None, refl, sym, subst, ap, ◌∙◌, arith}
+use Rattle.std.specs.Prelude.{nat_eq, length, if◌then◌else◌}
 use Rattle.std.proofs.lemmas.Bool.{and_parts, cond_both, eqb-true}
-use Rattle.std.proofs.lemmas.Bool.Decides.{nat_tests}
 use Rattle.lu_base.specs.declared.ids.At.{At}
 use Rattle.lu_base.specs.declared.ids.Cookie.{Cookie}
 use Rattle.lu_base.specs.declared.ids.Node.TheVariants.{Client, Target}
 use Rattle.lu_base.specs.declared.ids.Stamp.{Stamp}
 use Rattle.lu_base.specs.declared.ids.Who.{Who}
+use Rattle.lu_base.specs.declared.locks.Extent.{Extent}
 use Rattle.lu_base.specs.declared.locks.Lock.{Lock}
-use Rattle.lu_base.specs.declared.locks.Mode.TheVariants.{PR}
-use Rattle.lu_base.specs.declared.locks.Policy.TheVariants.{Range}
+use Rattle.lu_base.specs.declared.locks.Mode.{Mode}
+use Rattle.lu_base.specs.declared.locks.Policy.{Policy}
+use Rattle.lu_base.specs.declared.locks.Policy.TheVariants.{Bits, Range}
+use Rattle.lu_base.specs.declared.locks.Resource.{Resource}
 use Rattle.lu_msg.specs.declared.answers.Answer.{Answer}
 use Rattle.lu_msg.specs.declared.answers.Answer.TheVariants as answer
 use Rattle.lu_msg.specs.declared.messages.Message.TheVariants as message
@@ -21,51 +22,51 @@ use Rattle.lu_msg.specs.declared.operations.Op.{Op}
 use Rattle.lu_msg.specs.declared.operations.Op.TheVariants as op
 use Rattle.lu_held.specs.declared.locks.HeldLock.{HeldLock}
 use Rattle.lu_held.specs.declared.locks.Use.{Use}
-use Rattle.lu_held.specs.declared.names.LockName.{LockName}
 use Rattle.lu_held.specs.Locks.{named}
-use Rattle.lu_held.specs.Held.{is_held}
 use Rattle.lu_machine.specs.Fits.{answer_fits}
-use Rattle.lu_words.specs.Carried.{HandleFile, Flight, Narrow, Wide, Work, Asking, Answered, Stage, Plain, Bad, Enqueued, Came, Running}
-use Rattle.lu_words.specs.Words.{Entry, Send, Take, Heard, Hold, Learns, Stands, Line, line, with_turn, same_life}
-use Rattle.lu_words.specs.Concerns.{is_about, only}
+use Rattle.lu_words.specs.Carried.{Flight, Work, Asked, Answered, Stage, Bad, Looks, Enqueued, Waits, Came, Gets, Running}
+use Rattle.lu_words.specs.Words.{Entry, Take, Stands, Acks, Fills, Zeroes, Grown as Grows, Shows, Line, line, with_turn, same_life}
+use Rattle.lu_words.specs.declared.changes.Flush.TheVariants.{Cut, Put}
+use Rattle.lu_words.specs.declared.changes.Flush.{Flush}
+use Rattle.lu_words.specs.Concerns.{only}
 use Rattle.lu_words.specs.Sent.{Sent}
 use Rattle.lu_client_rows.specs.Advances.{at_stage, enqueue_of}
-use Rattle.lu_client_rows.specs.Caches.{held_as, held_at, with_held, with_brought, granted_lock, brought}
-use Rattle.lu_client_rows.specs.Calls.{call_on, calls_at, calls_after}
-use Rattle.lu_client_rows.specs.Imports.{Import, import_at, import_of}
-use Rattle.lu_client_rows.specs.Messages.{on_running, on_slot, holds, learns, size_with, lock_heard, enqueue_heard, heeds, hears_flight, hears_fitting, find_flight, hears, replied, cancels_unknown, blocked_waiting, blocked_held, blocked, is_present, comes_by}
-use Rattle.lu_client_rows.specs.Starts.{is_on, count_on}
-use Rattle.lu_client_rows.specs.States.{Client as ClientState, after, turn as turn_of}
-use Rattle.lu_client_rows.specs.Wants.{wants_of}
-use Rattle.lu_covered.specs.Calls.{asks_for, call_at, life_at, errand, operation_of}
-use Rattle.lu_covered.specs.ClientStates.{flights_of, life_of}
-use Rattle.lu_covered.specs.Covered.{IsReading, IsCovered}
-use Rattle.lu_covered.specs.Deeds.{whole}
+use Rattle.lu_client_rows.specs.Caches.{held_as, held_at, granted_lock, patches_at}
+use Rattle.lu_client_rows.specs.Bytes.{page_size}
+use Rattle.lu_client_rows.specs.Calls.{asks, calls_at}
+use Rattle.lu_client_rows.specs.Imports.{Import, import_of}
+use Rattle.lu_client_rows.specs.Messages.{held_as as held_of_name, is_waiter, on_running, on_slot, waiting_lock, lock_heard, enqueue_heard, fills, shows, page_under, page_heard, looks_again, heeds, hears_flight, hears_fitting, find_flight, hears, replied, is_present, comes_by}
+use Rattle.lu_client_rows.specs.Patches.{Patch}
+use Rattle.lu_client_rows.specs.States.{Client as ClientState}
+use Rattle.lu_covered.specs.Calls.{asks_for, call_at, life_at}
+use Rattle.lu_covered.specs.Covered.{OnObjects, IsOnObjects}
+use Rattle.lu_covered.specs.ClientStates.{awaits_of}
 use Rattle.lu_covered.specs.Imports.{flights_at}
 use Rattle.lu_table.specs.Heads as table
-use Rattle.lu_table.specs.Runs.{limits_of, client_of}
-use Rattle.lu_after.proofs.Clients.{client_own}
-use Rattle.lu_guards.proofs.Guards.{In, Was, HeardNow, JustHeard, Learned, HadUsed, LockStand, StatStand}
-use Rattle.lu_guards.proofs.Grown.{Grown}
-use Rattle.lu_guards.proofs.StoryGuards as story_guards
+use Rattle.lu_table.specs.Runs.{client_of}
+use Rattle.lu_guards.proofs.HeedMarks.{heeds_marks, marks_left, MarkNext}
+use Rattle.lu_guards.proofs.Guards.{In, JustHeard, HadUsed, used_in, StandsOk, Owes, marks_of}
 use Rattle.lu_guards.proofs.Lists.{self, life_is, turn, turn_more}
-use Rattle.lu_guards.proofs.Only.{sent_was, was_only, told_by_target, grown_of}
-use Rattle.lu_guards.proofs.Parts.{flights_now, known_is, life_is_of}
 use Rattle.lu_guards.proofs.Turns.{Settled, owes_nothing}
-use Rattle.lu_guards.proofs.Covers.{EntriesCovered}
-use Rattle.lu_guards.proofs.Held.{held_into, held_back, held_name}
-use Rattle.lu_guards.proofs.Has.{Ungranted, none_granted}
-use Rattle.lu_guards.proofs.Given.{Grants}
-use Rattle.lu_guards.proofs.LockKinds.{reply_bare, reply_grants}
 use Rattle.lu_guards.proofs.Calls.{had_all}
-use Rattle.lu_guards.proofs.Asks.{CallOf, plain_errand, sizes_errand, LocksFirst, locks_errand, asks_grown}
-use Rattle.lu_guards.proofs.ClientLocks.{Differ, brought_in, with_self, with_other, other_lock}
-use Rattle.lu_guards.proofs.ClientHandles.{Tied, count_more}
-use Rattle.lu_guards.proofs.ClientLines.{IsNames, IsLock, IsSimple, asked_simple, becomes_names, brings_its, heeds_nothing, flights_asked, SmallOn, small_on, reply_differs}
-use Rattle.lu_guards.proofs.ClientLooks.{ReadUse, wants_read, wanted_in, enqueues}
-use Rattle.lu_guards.proofs.ClientRests.{Good, Sizing, ReadsOn, StatsOn, Reading, Locking, HasAsked, Idle, AllIdle, Rested, the_head, adds, at_one, at_zero, call_line, held_line, import_zero, import_there, mark_good}
-use Rattle.lu_guards.proofs.ClientCalls.{OnNames, idle_more, calls_wait, on_small, covered_right, asked_more}
-use Rattle.lu_guards.proofs.ClientStarts.{Starts, After, took_good, took_rested, no_waiter}
+use Rattle.lu_guards.proofs.CallStands.{IdleAt, Wanting, Sizing, Locking, Waiting, Getting, HasAsked, Idle, Looking, Movable, idle_moves}
+use Rattle.lu_guards.proofs.ClientHandles.{Tied}
+use Rattle.lu_guards.proofs.ClientLines.{IsLock, IsBytes, IsSimple, heeds_nothing, SmallOn, small_on}
+use Rattle.lu_guards.proofs.Asks.{AsksFor, IsBack, CallOf, LocksFirst, asks_grown}
+use Rattle.lu_guards.proofs.CallMoves.{apart}
+use Rattle.lu_guards.proofs.ClientGood.{Good, the_head, adds, followed}
+use Rattle.lu_guards.proofs.ClientRests.{import_there}
+use Rattle.lu_guards.proofs.ClientCalls.{OnNames, on_small, idle_more, asked_more}
+use Rattle.lu_guards.proofs.ClientTakes.{reads_as}
+use Rattle.lu_guards.proofs.StageMoves.{OnStage, stage_on}
+use Rattle.lu_guards.proofs.ClientPasses.{Moving}
+use Rattle.lu_guards.proofs.TurnStarts.{Starts, took_rested}
+use Rattle.lu_guards.proofs.Awaits.{Awaits, waiting_for, lock_named}
+use Rattle.lu_guards.proofs.AwaitsTurns.{took_awaits}
+use Rattle.lu_guards.proofs.AwaitsReplies.{IsLockOp, IsToWait, ReplyFits, heard_awaits}
+use Rattle.lu_guards.proofs.ClientHears.{IsHeard, Finds, p1, p4, locks, es, es_so, asks_what, bare, first, is_heard, one_held, none_held}
+use Rattle.lu_guards.proofs.AskedCalls.{bytes_as, sizes_as, wanting_as, AsksNow, who_asks, locks_of, locking_of, getting_of, gets_of, not_back, none_low, range_of, lock_is, others_of, Stood, stood, stood_idle}
+use Rattle.lu_guards.proofs.ClientStarts.{After}
 
 -- a request in flight that is found
 pub found_in : (xid : ℕ) (flights : List Flight) (f : Flight) → find_flight xid flights ≡ Some f → In f flights × (f.xid ≡ xid)
@@ -76,586 +77,615 @@ found_in xid (g ∷ flights) f e =
     (λ t q. let r = found_in xid flights f q in (inr r.0, r.1))
     e
 
--- ---- a call that stands alike
-
-abbrev does_as : (r q : Running) (w : Work) → q.call ≡ r.call → q.file ≡ r.file → (q.stage ≡ Bad → ⊥) → ReadsOn r w ⊎ StatsOn r w → ReadsOn q w ⊎ StatsOn q w
-does_as r q w same file good (inl d) =
-    inl (record {
-      read = record { handle = d.read.handle; offset = d.read.offset; count = d.read.count; reads = same ∙ d.read.reads; good = good; file = d.read.file; of_file = file ∙ d.read.of_file };
-      kind = d.kind;
-      fid = d.fid;
-      layout = d.layout;
-    })
-does_as r q w same file good (inr d) = inr (record { path = d.path; stats = same ∙ d.stats; good = good; mode = d.mode; links = d.links; kind = d.kind })
-
-abbrev reading_as : (r q : Running) (w : Work) → q.call ≡ r.call → q.file ≡ r.file → (q.stage ≡ Bad → ⊥) → Reading r w → Reading q w
-reading_as r q w same file good g =
-    record {
-      does = does_as r q w same file good g.does;
-      wanted = g.wanted;
-      left = g.left;
-      first = g.first;
-      order = g.order;
-      ends = g.ends;
-    }
-
-locking_as : (r : Running) (a : Asking) → Locking r → Locking (record r { asking = a })
-locking_as r a l = record { work = l.work; stage = l.stage; reading = reading_as r (record r { asking = a }) l.work refl refl (λ e. let q : Enqueued l.work ≡ Bad = sym l.stage ∙ e in cc) l.reading }
-
--- ---- the locks of a reply
-
-pub one_differs : (o : Op) (r : ReplyTo) (a : Answer) → Differ (granted_lock o r a)
-one_differs (op.Enqueue resource mode extent) r (answer.Granted cookie whole size) = ((λ m i. absurd i), tt)
-one_differs o r a = tt
-
--- where none came, and the lock isn't waited for, nothing comes of it
-not_heard : (who : Who) (slot : ℕ) (r : Running) (w : Work) (a : Answer) (wanted : Use) (left : List Use) → EntriesCovered (lock_heard who slot r w a [] (wanted ∷ left)) → lock_heard who slot r w a [] (wanted ∷ left) ≡ []
-not_heard who slot r w (answer.Waiting cookie) wanted left cov = absurd cov.0
-not_heard who slot r w a wanted left cov = refl
-
--- ---- the calls after a turn's entries
-
-turn_calls : (es : List Entry) (j k : ClientState) → j.calls ≡ k.calls → (turn_of j es).calls ≡ (turn_of k es).calls
-turn_calls [] j k e = e
-turn_calls (x ∷ es) j k e = turn_calls es (after j x) (after k x) (ap (λ (calls : List (Option Running)). calls_after calls x) e)
-
-is_reading : (r : Running) (w : Work) → ReadsOn r w ⊎ StatsOn r w → IsReading w.kind
-is_reading r w (inl d) = ⊎_elim (λ (e : w.kind ≡ Narrow d.read.offset d.read.count). subst IsReading (sym e) tt) (λ (e : w.kind ≡ Wide d.read.offset d.read.count). subst IsReading (sym e) tt) d.kind
-is_reading r w (inr d) = subst IsReading (sym d.kind) tt
-
 module _ (head : table.Head) (c : ℕ) (stamp : Stamp) where
   abbrev at : At
   at = turn stamp (Client c)
 
-  only_line : (t : ℕ) (e : Entry) (p : List Line) → is_about t e ≡ true → only t (line at e ∷ p) ≡ line at e ∷ only t p
-  only_line t e p q = ap (λ (b : Bool). if b then line at e ∷ only t p else only t p) q
+  abbrev Outcome : List Line → Type 0
+  Outcome = After head c stamp
 
-  -- ---- a reply is heard
+  moved : {z : List Line} → Moving head c stamp z → Outcome z
+  moved m = inr (inr (inl m))
 
-  -- it was heard in this turn; the locks that came with it are held, and these are still to be shown
-  record Showing (t : ℕ) (f : Flight) (r : ReplyTo) (before : List Line) (left : List Lock) (p : List Line) : Type 0 where
-    good : Good head c at p
-    settled : Settled p
-    now : HeardNow p at t f r
-    now_only : HeardNow (only t p) at t f r
-    just : JustHeard p at t r
-    learned : r.locks ≡ [] → Learned p at t f r
-    held : (l : Lock) → In l left → In (held_as t l false) (held_at c p)
-    differ : Differ left
-    among : (l : Lock) → In l left → In l (brought f.op r)
-    calls : (slot : ℕ) → call_at c slot p ≡ asks_for f.slot slot (Answered t r) (call_at c slot before)
-    handles : Tied c p
+  -- ---- the reply to a request in flight
 
-  held_so : (t : ℕ) (r : ReplyTo) (l : Lock) (p : List Line) → held_at c (line at (Hold t l false (size_with r.answer) r.seen) ∷ p) ≡ with_held (held_as t l false) (held_at c p)
-  held_so t r l p = held_line head c stamp p (Hold t l false (size_with r.answer) r.seen)
+  module _ (p : List Line) (n t : ℕ) (r : ReplyTo) (f : Flight) (s : Starts head c stamp p) (found : Finds head c stamp p n t r f) where
+    abbrev q : List Line
+    q = p4 head c stamp p n t r f s found
 
-  hold_good : (t : ℕ) (f : Flight) (r : ReplyTo) (before : List Line) (l : Lock) (left : List Lock) (p : List Line) → Showing t f r before (l ∷ left) p
-      → Showing t f r before left (line at (Hold t l false (size_with r.answer) r.seen) ∷ p)
-  hold_good t f r before l left p s =
-      record {
-        good =
-            adds head c stamp p e s.good (owes_nothing p at e s.settled)
-            (record { flight = f; reply = r; heard = s.now; among = s.among l (inl refl); unmarked = refl; sized = refl; saw = refl })
-            (at_one head c stamp t (λ (u : ℕ). (false ≡ false) × story_guards.HeldOk (only u p) c t l r.seen) (
-              refl,
-              record {
-                at = at;
-                flight = f;
-                reply = r;
-                here = refl;
-                heard = s.now_only;
-                among = s.among l (inl refl);
-                saw = refl;
-                held = held_into c t p (held_as t l false) refl (s.held l (inl refl));
-              },
-            )) tt refl;
-        settled = tt;
-        now = s.now;
-        now_only = subst (λ (q : List Line). HeardNow q at t f r) (sym (only_line t e p (self t))) s.now_only;
-        just = s.just;
-        learned = s.learned;
-        held = λ m i. subst (λ (hs : List HeldLock). In (held_as t m false) hs) (sym so) (with_other (held_as t l false) (held_as t m false) (held_at c p) (other_lock t l m (s.differ.0 m i)) (s.held m (inr i)));
-        differ = s.differ.1;
-        among = λ m i. s.among m (inr i);
-        calls = s.calls;
-        handles = s.handles;
-      }
-    where
-      e : Entry
-      e = Hold t l false (size_with r.answer) r.seen
+    abbrev h : IsHeard head c stamp t f r p q
+    h = is_heard head c stamp p n t r f s found
 
-      so : held_at c (line at e ∷ p) ≡ with_held (held_as t l false) (held_at c p)
-      so = held_so t r l p
+    abbrev k4 : ClientState
+    k4 = client_of head c q
 
-  holds_good : (t : ℕ) (f : Flight) (r : ReplyTo) (before : List Line) (left : List Lock) (p : List Line) → Showing t f r before left p → Showing t f r before [] (with_turn at (holds t (size_with r.answer) r.seen left) p)
-  holds_good t f r before [] p s = s
-  holds_good t f r before (l ∷ left) p s = holds_good t f r before left (line at (Hold t l false (size_with r.answer) r.seen) ∷ p) (hold_good t f r before l left p s)
-
-  -- the call that it answers, if it still waits, is to be told, or goes on
-  record IsHeard (t : ℕ) (f : Flight) (r : ReplyTo) (before p : List Line) : Type 0 where
-    good : Good head c at p
-    settled : Settled p
-    just : JustHeard p at t r
-    learned : Learned p at t f r
-    calls : (slot : ℕ) → call_at c slot p ≡ asks_for f.slot slot (Answered t r) (call_at c slot before)
-    handles : Tied c p
-
-  learns_good : (t : ℕ) (f : Flight) (r : ReplyTo) (before : List Line) (ls : List Lock) (p : List Line) → (t ≡ 0) ⊎ (r.locks ≡ []) → r.locks ≡ ls → Showing t f r before [] p
-      → IsHeard t f r before (with_turn at (learns t f.op r.answer ls) p)
-  learns_good t f r before [] p first e h = record { good = h.good; settled = h.settled; just = h.just; learned = h.learned e; calls = h.calls; handles = h.handles }
-  learns_good t f r before (l ∷ ls) p (inr none) e h = absurd (let q : [] ≡ l ∷ ls = sym none ∙ e in cc)
-  learns_good t f r before (l ∷ ls) p (inl zero_it) e h =
-      let x = Learns t f.op r.answer (l ∷ ls) in
-      record {
-        good =
-            adds head c stamp p x h.good (owes_nothing p at x h.settled)
-            (record { names = zero_it; flight = f; reply = r; heard = h.now; of_op = refl; of_answer = refl; of_locks = sym e })
-            (at_one head c stamp t (λ (u : ℕ). story_guards.KnowsOk (only u p) f.op r.answer (l ∷ ls)) (record {
-              at = at;
-              flight = f;
-              reply = r;
-              heard = subst (λ (v : ℕ). HeardNow (only t p) at v f r) zero_it h.now_only;
-              of_op = refl;
-              of_answer = refl;
-              of_locks = sym e;
-            })) tt refl;
-        settled = tt;
-        just = h.just;
-        learned = (refl, refl, refl, sym e, h.now);
-        calls = h.calls;
-        handles = h.handles;
-      }
-
-  -- what it does next is by what it asked, whatever its answer
-  abbrev GoesOn : Running → Asking → Type 0
-  GoesOn r a = ((r.pins ≡ []) × (OnNames r ⊎ Sizing (record r { asking = a }))) ⊎ Locking (record r { asking = a })
-
-  asks_still : (r : Running) (a : Asking) → HasAsked r → GoesOn r a
-  asks_still r a (inl (n, inl q)) = inl (n, inl (q.1, q.2))
-  asks_still r a (inl (n, inr q)) =
-      let g = q.0 in
-      inl (
-        n,
-        inr (record {
-          handle = g.handle;
-          glimpses = g.glimpses;
-          work = g.work;
-          stage = g.stage;
-          sizes = g.sizes;
-          kind = g.kind;
-          wanted = g.wanted;
-          left = g.left;
-          first = g.first;
-          ranges = g.ranges;
-          file = g.file;
-          of_file = g.of_file;
-          before = g.before;
-          all = g.all;
-          each = g.each;
-        }),
-      )
-  asks_still r a (inr l) = inr (locking_as r a l)
-
-  -- a close that waits is one on names
-  asks_with : (calls : List (Option Running)) (r : Running) (a : Asking) → Idle calls (Some r) → GoesOn r a
-  asks_with calls r a (inl h) = asks_still r a h
-  asks_with calls r a (inr w) = inl (w.pins, inl (w.plain, (op.Close w.file.number w.file.fid, ap (λ (f : Option HandleFile). operation_of f r.call) w.of_file ∙ ap (operation_of (Some w.file)) w.closes)))
-
-  -- as many calls are on each open as before
-  still : (t : ℕ) (f : Flight) (r : ReplyTo) (before p : List Line) → IsHeard t f r before p → (x : Option Running) → Idle (calls_at c before) x → Idle (calls_at c p) x
-  still t f r before p h x i = idle_more (calls_at c before) (calls_at c p) (asked_more c before p f.slot (Answered t r) h.calls) x i
-
-  -- the call on another slot waits
-  waits_on : (t : ℕ) (f : Flight) (r : ReplyTo) (before p : List Line) → AllIdle c before → IsHeard t f r before p → (s slot : ℕ) → f.slot ≡ Some s → (slot ≡ s → ⊥) → Idle (calls_at c p) (call_at c slot p)
-  waits_on t f r before p idle h s slot e n = by (nat_eq s slot) refl
-    where
-      by : (b : Bool) → nat_eq s slot ≡ b → Idle (calls_at c p) (call_at c slot p)
-      by true q = absurd (n (sym (eqb-true s slot q)))
-      by false q = let so : call_at c slot p ≡ call_at c slot before = h.calls slot ∙ rw (e, q) refl in subst (Idle (calls_at c p)) (sym so) (still t f r before p h (call_at c slot before) (idle slot))
-
-  heard_after : (t : ℕ) (f : Flight) (r : ReplyTo) (before p : List Line) → Grown (the_head head c stamp) before → AllIdle c before → IsHeard t f r before p → After head c stamp p
-  heard_after t f r before p g idle h = by f.slot refl
-    where
-      whole_idle : AllIdle c p → After head c stamp p
-      whole_idle all = inl (record { good = h.good; settled = h.settled; idle = all; handles = h.handles })
-
-      other : (s slot : ℕ) → f.slot ≡ Some s → (slot ≡ s → ⊥) → Idle (calls_at c p) (call_at c slot p)
-      other s slot e n = waits_on t f r before p idle h s slot e n
-
-      -- where the call on that slot waits, or none is there
-      but : (s : ℕ) → f.slot ≡ Some s → Idle (calls_at c p) (call_at c s p) → After head c stamp p
-      but s e own = whole_idle (λ slot. by slot (nat_eq slot s) refl)
-        where
-          by : (slot : ℕ) (b : Bool) → nat_eq slot s ≡ b → Idle (calls_at c p) (call_at c slot p)
-          by slot true t = subst (λ (u : ℕ). Idle (calls_at c p) (call_at c u p)) (sym (eqb-true slot s t)) own
-          by slot false t = other s slot e (λ is. let same : nat_eq slot s ≡ true = ap (λ (u : ℕ). nat_eq u s) is ∙ self s in absurd (cc))
-
-      on : (s : ℕ) → f.slot ≡ Some s → (x : Option Running) → call_at c s before ≡ x → Idle (calls_at c before) x → After head c stamp p
-      on s e None q i = let so : call_at c s p ≡ None = h.calls s ∙ rw (e, self s, q) refl in but s e (subst (Idle (calls_at c p)) (sym so) tt)
-      on s e (Some r0) q i = by (asks_with (calls_at c before) r0 (Answered t r) i)
-        where
-          now : call_at c s p ≡ Some (record r0 { asking = Answered t r })
-          now = h.calls s ∙ rw (e, self s, q) refl
-
-          by : GoesOn r0 (Answered t r) → After head c stamp p
-          by (inr l) = but s e (subst (Idle (calls_at c p)) (sym now) (inl (inr l)))
-          by (inl does) =
-              inr (record {
-                slot = s;
-                target = t;
-                running = record r0 { asking = Answered t r };
-                flight = f;
-                reply = r;
-                heard = record {
-                  good = h.good;
-                  settled = h.settled;
-                  small = subst (SmallOn s) q (small_on (the_head head c stamp) c s before g);
-                  call = now;
-                  others = λ slot n. other s slot e n;
-                  handles = h.handles;
-                  answered = refl;
-                  does = inl does;
-                  serves = e;
-                  heard = h.just;
-                  learned = h.learned;
-                };
-              })
-
-      by : (o : Option ℕ) → f.slot ≡ o → After head c stamp p
-      by None e = whole_idle (λ slot. let so : call_at c slot p ≡ call_at c slot before = h.calls slot ∙ rw e refl in subst (Idle (calls_at c p)) (sym so) (still t f r before p h (call_at c slot before) (idle slot)))
-      by (Some s) e = on s e (call_at c s before) refl (idle s)
-
-  -- the request that the reply answers is in flight, and the reply is of this life and boot
-  record Finds (p : List Line) (n t : ℕ) (r : ReplyTo) (f : Flight) : Type 0 where
-    sent : Sent p n (Target t) (Client c) (message.Reply r)
-    flying : In f (flights_at c t p)
-    xid : f.xid ≡ r.xid.0
-    who : r.who ≡ life_at c p
-    boot : r.boot ≡ (import_at c t p).boot
-    fits : answer_fits f.op r.answer ≡ true
-
-  module _ (p : List Line) (n t : ℕ) (r : ReplyTo) (f : Flight) (s : Starts head c stamp p) (found : Finds p n t r f) where
-    abbrev p1 : List Line
-    p1 = line at (Take n (Target t) (message.Reply r)) ∷ p
-
-    abbrev p2 : List Line
-    p2 = line at (Heard t f r) ∷ p1
-
-    abbrev locks : List Lock
-    locks = brought f.op r
-
-    abbrev p3 : List Line
-    p3 = with_turn at (holds t (size_with r.answer) r.seen locks) p2
-
-    abbrev p4 : List Line
-    p4 = with_turn at (learns t f.op r.answer r.locks) p3
-
-    abbrev es : List Entry
-    es = Heard t f r ∷ holds t (size_with r.answer) r.seen locks ++ learns t f.op r.answer r.locks
-
-    es_so : with_turn at es p1 ≡ p4
-    es_so = turn_more at (holds t (size_with r.answer) r.seen locks) (learns t f.op r.answer r.locks) p2
-
-    asks_what : IsSimple f.op ⊎ ((0 < t) × IsLock f.op)
-    asks_what = asked_simple t f.op (flights_asked (the_head head c stamp) c t p s.grown f found.flying)
-
-    was : Was (only t p) (Target t) (Client c) (message.Reply r)
-    was = told_by_target p n t (Client c) (message.Reply r) found.sent
-
-    bare : 0 < t → r.locks ≡ []
-    bare high = reply_bare (the_head head c stamp) t p s.grown high (Target t) (Client c) r was
-
-    -- locks on names come from the metadata target alone
-    first : (t ≡ 0) ⊎ (r.locks ≡ [])
-    first = by (nat_eq t 0) refl
-      where
-        high : (t : ℕ) → nat_eq t 0 ≡ false → 0 < t
-        high t e = grind (arith, nat_tests, e)
-
-        by : (b : Bool) → nat_eq t 0 ≡ b → (t ≡ 0) ⊎ (r.locks ≡ [])
-        by true e = inl (eqb-true t 0 e)
-        by false e = inr (bare (high t e))
-
-    differ : Differ locks
-    differ = by asks_what
-      where
-        by : IsSimple f.op ⊎ ((0 < t) × IsLock f.op) → Differ locks
-        by (inl simple) = subst Differ (sym (brings_its f.op r simple)) (reply_differs (the_head head c stamp) (only t p) (Target t) c r (grown_of (the_head head c stamp) t p s.grown) was)
-        by (inr lock) = subst (λ (ls : List Lock). Differ (ls ++ granted_lock f.op r r.answer)) (sym (bare lock.0)) (one_differs f.op r r.answer)
-
-    took : Good head c at p1
-    took = took_good head c stamp p n t (message.Reply r) s found.sent
-
-    heard_good : Good head c at p2
-    heard_good =
-        adds head c stamp p1 (Heard t f r) took (owes_nothing p1 at (Heard t f r) tt) (first, (refl, refl, refl))
-        (at_one head c stamp t (λ (u : ℕ). story_guards.HeardOk (only u p1) c f r) (record {
-          from = t;
-          was = was_only t p1 (Target t) (Client c) (message.Reply r) (self t) (sent_was p n (Target t) (Client c) (message.Reply r) found.sent);
-          flying = subst (λ (fs : List Flight). In f fs) (flights_now (the_head head c stamp) c t p1 took.grown) found.flying;
-          xid = found.xid;
-          who = found.who ∙ life_is_of c t p1;
-          boot = found.boot ∙ known_is c t p1;
-          fits = found.fits;
-        })) tt refl
-
-    held_now : held_at c p2 ≡ with_brought t locks (held_at c p)
-    held_now = held_line head c stamp p1 (Heard t f r)
-
-    shows : Showing t f r p locks p2
-    shows =
-        record {
-          good = heard_good;
-          settled = tt;
-          now = (refl, refl, refl, refl);
-          now_only = subst (λ (q : List Line). HeardNow q at t f r) (sym (only_line t (Heard t f r) p1 (self t))) (refl, refl, refl, refl);
-          just = (refl, refl, refl);
-          learned = λ e. (refl, refl, refl, refl, e);
-          held = λ l i. subst (λ (hs : List HeldLock). In (held_as t l false) hs) (sym held_now) (brought_in t l locks (held_at c p) differ i);
-          differ = differ;
-          among = λ l i. i;
-          calls = λ slot. call_line head c stamp slot p1 (Heard t f r);
-          handles = s.between.handles;
-        }
-
-    is_heard : IsHeard t f r p p4
-    is_heard = learns_good t f r p r.locks p3 first refl (holds_good t f r p locks p2 shows)
-
-    abbrev k : ClientState
-    k = client_of head c p
+    abbrev lines : List Entry
+    lines = hears_flight t r f (client_of head c p)
 
     -- what is left of the turn by what is heard
     abbrev heeding : List Entry
-    heeding = heeds t f f.op r r.answer (turn_of k es)
+    heeding = heeds t f f.op r r.answer k4
 
-    heard_so : with_turn at (hears_flight t r f k) p1 ≡ with_turn at heeding p4
-    heard_so = turn_more at es heeding p1 ∙ ap (λ (q : List Line). with_turn at heeding q) es_so
+    heard_so : with_turn at lines (p1 head c stamp p n t r f s found) ≡ with_turn at heeding q
+    heard_so =
+        followed head c stamp (es head c stamp p n t r f s found) (heeds t f f.op r r.answer) (p1 head c stamp p n t r f s found)
+        ∙ ap (λ (z : List Line). with_turn at (heeds t f f.op r r.answer (client_of head c z)) z) (es_so head c stamp p n t r f s found)
 
-    -- where nothing comes of it
-    simple_after : heeding ≡ [] → After head c stamp (with_turn at (hears_flight t r f k) p1)
-    simple_after none =
-        subst (After head c stamp) (sym (heard_so ∙ ap (λ (fs : List Entry). with_turn at fs p4) none))
-        (heard_after t f r p p4 s.grown s.between.idle is_heard)
+    -- a call that the reply doesn't answer is idle still
+    idle_on : (u : ℕ) → asks_for f.slot u (Answered t r) (call_at c u p) ≡ call_at c u p → IdleAt c q u
+    idle_on u same =
+        subst (λ (who : Who). Idle who (patches_at c q) (calls_at c q) (call_at c u q)) (sym h.since.life)
+        (subst (λ (patches : List (Resource × Patch)). Idle (life_at c p) patches (calls_at c q) (call_at c u q)) (sym h.since.patches)
+        (subst (Idle (life_at c p) (patches_at c p) (calls_at c q)) (sym (h.since.calls u ∙ same))
+        (idle_more (life_at c p) (patches_at c p) (calls_at c p) (calls_at c q) (asked_more c p q f.slot (Answered t r) h.since.calls) (call_at c u p) (s.between.idle u))))
 
-    -- ---- one to a read, or a stat, that waits for a lock
+    moves_on : (u : ℕ) → asks_for f.slot u (Answered t r) (call_at c u p) ≡ call_at c u p → Movable (life_at c q) (call_at c u q)
+    moves_on u same = idle_moves (life_at c q) (patches_at c q) (calls_at c q) (call_at c u q) (idle_on u same)
 
-    module _ (high : 0 < t) (slot : ℕ) (serves : f.slot ≡ Some slot) (r0 : Running) (call : call_at c slot p ≡ Some r0) (asks : errand r0 ≡ Some (record { target = t; op = f.op })) (l : Locking r0) where
-      abbrev g : Reading r0 l.work
-      g = l.reading
+    idle_but : (slot : ℕ) → f.slot ≡ Some slot → (u : ℕ) → (u ≡ slot → ⊥) → IdleAt c q u
+    idle_but slot serves u other = idle_on u (ap (λ (o : Option ℕ). asks_for o u (Answered t r) (call_at c u p)) serves ∙ ap (λ (b : Bool). if b then asks (Answered t r) (call_at c u p) else call_at c u p) (apart head c stamp slot u other))
 
+    moves_but : (slot : ℕ) → f.slot ≡ Some slot → (u : ℕ) → (u ≡ slot → ⊥) → Movable (life_at c q) (call_at c u q)
+    moves_but slot serves u other = idle_moves (life_at c q) (patches_at c q) (calls_at c q) (call_at c u q) (idle_but slot serves u other)
+
+    moving : ((u : ℕ) → Movable (life_at c q) (call_at c u q)) → Moving head c stamp q
+    moving moves = record { good = h.since.good; settled = h.since.settled; moves = moves; handles = h.since.handles }
+
+    -- one that is written back serves no call
+    back_moves : f.slot ≡ None → (u : ℕ) → Movable (life_at c q) (call_at c u q)
+    back_moves none u = moves_on u (ap (λ (o : Option ℕ). asks_for o u (Answered t r) (call_at c u p)) none)
+
+    -- ---- what is to be marked of the answer
+
+    -- marks leave the calls, and the life
+    record Marked (z : List Line) : Type 0 where
+      good : Good head c at z
+      just : JustHeard z at t r
+      calls : (u : ℕ) → call_at c u z ≡ call_at c u q
+      life : life_at c z ≡ life_at c q
+      handles : Tied c z
+
+    start : Marked q
+    start = record { good = h.since.good; just = h.since.just; calls = λ u. refl; life = refl; handles = h.since.handles }
+
+    marks_so : (o : Op) (a : Answer) → f.op ≡ o → r.answer ≡ a → marks_of c q ≡ heeds_marks t o a (held_at c p)
+    marks_so o a of_op of_answer = h.since.marks ∙ ap (λ (x : Op). heeds_marks t x r.answer (held_at c p)) of_op ∙ ap (λ (x : Answer). heeds_marks t o x (held_at c p)) of_answer
+
+    acks_marked : (resource : Resource) (z : List Line) → Marked z → Owes z at (Acks resource) → MarkNext z c (Acks resource) → Marked (line at (Acks resource) ∷ z)
+    acks_marked resource z m owes ok = record { good = adds head c stamp z (Acks resource) m.good owes ok (λ u e. tt) tt refl; just = m.just; calls = λ u. m.calls u; life = m.life; handles = m.handles }
+
+    fills_marked : (resource : Resource) (offset : ℕ) (bs : List ℕ) (z : List Line) → Marked z → Owes z at (Fills resource offset bs) → MarkNext z c (Fills resource offset bs) → Marked (line at (Fills resource offset bs) ∷ z)
+    fills_marked resource offset bs z m owes ok = record { good = adds head c stamp z (Fills resource offset bs) m.good owes ok (λ u e. tt) tt refl; just = m.just; calls = λ u. m.calls u; life = m.life; handles = m.handles }
+
+    zeroes_marked : (resource : Resource) (size : ℕ) (z : List Line) → Marked z → Owes z at (Zeroes resource size) → MarkNext z c (Zeroes resource size) → Marked (line at (Zeroes resource size) ∷ z)
+    zeroes_marked resource size z m owes ok = record { good = adds head c stamp z (Zeroes resource size) m.good owes ok (λ u e. tt) tt refl; just = m.just; calls = λ u. m.calls u; life = m.life; handles = m.handles }
+
+    grows_marked : (resource : Resource) (change : Flush) (z : List Line) → Marked z → Owes z at (Grows resource change) → MarkNext z c (Grows resource change) → Marked (line at (Grows resource change) ∷ z)
+    grows_marked resource change z m owes ok = record { good = adds head c stamp z (Grows resource change) m.good owes ok (λ u e. tt) tt refl; just = m.just; calls = λ u. m.calls u; life = m.life; handles = m.handles }
+
+    shows_marked : (resource : Resource) (cookie : Cookie) (last : ℕ) (z : List Line) → Marked z → Owes z at (Shows resource cookie last) → MarkNext z c (Shows resource cookie last) → Marked (line at (Shows resource cookie last) ∷ z)
+    shows_marked resource cookie last z m owes ok = record { good = adds head c stamp z (Shows resource cookie last) m.good owes (inr ok) (λ u e. tt) tt refl; just = m.just; calls = λ u. m.calls u; life = m.life; handles = m.handles }
+
+    -- the next one is the first of those that are left
+    mine_left : (z : List Line) → (if nat_eq c c then marks_left (marks_of c z) else marks_of c z) ≡ marks_left (marks_of c z)
+    mine_left z = ap (λ (b : Bool). if b then marks_left (marks_of c z) else marks_of c z) (self c)
+
+    -- the bytes of the page that lie under the lock, and its last one is shown
+    page_marked : (resource : Resource) (cookie : Cookie) (page : ℕ) (bs : List ℕ) (o : Option Lock) (z : List Line) → Marked z → Settled z → marks_of c z ≡ page_heard resource cookie page bs o
+        → Marked (with_turn at (page_heard resource cookie page bs o) z) × Settled (with_turn at (page_heard resource cookie page bs o) z)
+    page_marked resource cookie page bs None z m settled e = (m, settled)
+    page_marked resource cookie page bs (Some l) z m settled e = by l.ask.policy e
+      where
+        with_shown : (extent : Extent) (bs : List ℕ) (last : List ℕ) → marks_of c z ≡ shows resource cookie page last ++ fills resource page bs extent ∷ []
+            → Marked (with_turn at (shows resource cookie page last ++ fills resource page bs extent ∷ []) z) × Settled (with_turn at (shows resource cookie page last ++ fills resource page bs extent ∷ []) z)
+        with_shown extent bs [] e = (fills_marked resource _ _ z m (owes_nothing z at (fills resource page bs extent) settled) ([], e), tt)
+        with_shown extent bs (b ∷ last) e =
+            let x = Shows resource cookie (page * page_size + length last) in
+            let z1 = line at x ∷ z in
+            let m1 = shows_marked resource cookie (page * page_size + length last) z m (owes_nothing z at x settled) (fills resource page bs extent ∷ [], e) in
+            (fills_marked resource _ _ z1 m1 (refl, tt) ([], mine_left z ∙ ap marks_left e), tt)
+
+        by : (p : Policy) → marks_of c z ≡ page_under resource cookie page bs p → Marked (with_turn at (page_under resource cookie page bs p) z) × Settled (with_turn at (page_under resource cookie page bs p) z)
+        by (Range extent) e = with_shown extent bs bs e
+        by (Bits bits) e = (m, settled)
+
+    -- a change that was written back
+    put_marked : (resource : Resource) (offset : ℕ) (bs : List ℕ) → marks_of c q ≡ Acks resource ∷ Fills resource offset bs ∷ Grows resource (Put offset bs) ∷ [] → Marked (line at (Grows resource (Put offset bs)) ∷ line at (Fills resource offset bs) ∷ line at (Acks resource) ∷ q)
+    put_marked resource offset bs e =
+        let q1 = line at (Acks resource) ∷ q in
+        let q2 = line at (Fills resource offset bs) ∷ q1 in
+        let m1 = acks_marked resource q start (owes_nothing q at (Acks resource) h.since.settled) (Fills resource offset bs ∷ Grows resource (Put offset bs) ∷ [], e) in
+        let e1 : marks_of c q1 ≡ Fills resource offset bs ∷ Grows resource (Put offset bs) ∷ [] = mine_left q ∙ ap marks_left e in
+        let m2 = fills_marked resource offset bs q1 m1 tt (Grows resource (Put offset bs) ∷ [], e1) in
+        let e2 : marks_of c q2 ≡ Grows resource (Put offset bs) ∷ [] = mine_left q1 ∙ ap marks_left e1 in
+        grows_marked resource (Put offset bs) q2 m2 tt ([], e2)
+
+    cut_marked : (resource : Resource) (size : ℕ) → marks_of c q ≡ Acks resource ∷ Zeroes resource size ∷ Grows resource (Cut size) ∷ [] → Marked (line at (Grows resource (Cut size)) ∷ line at (Zeroes resource size) ∷ line at (Acks resource) ∷ q)
+    cut_marked resource size e =
+        let q1 = line at (Acks resource) ∷ q in
+        let q2 = line at (Zeroes resource size) ∷ q1 in
+        let m1 = acks_marked resource q start (owes_nothing q at (Acks resource) h.since.settled) (Zeroes resource size ∷ Grows resource (Cut size) ∷ [], e) in
+        let e1 : marks_of c q1 ≡ Zeroes resource size ∷ Grows resource (Cut size) ∷ [] = mine_left q ∙ ap marks_left e in
+        let m2 = zeroes_marked resource size q1 m1 tt (Grows resource (Cut size) ∷ [], e1) in
+        let e2 : marks_of c q2 ≡ Grows resource (Cut size) ∷ [] = mine_left q1 ∙ ap marks_left e1 in
+        grows_marked resource (Cut size) q2 m2 tt ([], e2)
+
+    -- it serves no call
+    marked_moves : f.slot ≡ None → (z : List Line) → Marked z → Settled z → Moving head c stamp z
+    marked_moves none z m settled =
+        record {
+          good = m.good;
+          settled = settled;
+          moves = λ u. subst (λ (who : Who). Movable who (call_at c u z)) (sym m.life) (subst (Movable (life_at c q)) (sym (m.calls u)) (back_moves none u));
+          handles = m.handles;
+        }
+
+    -- no lock comes with a page
+    brought_none : (resource : Resource) (cookie : Cookie) (page : ℕ) → f.op ≡ op.Get resource cookie page → 0 < t → locks head c stamp p n t r f s found ≡ []
+    brought_none resource cookie page of_op high = ap (λ (ls : List Lock). ls ++ granted_lock f.op r r.answer) (bare head c stamp p n t r f s found high) ∙ ap (λ (o : Op). granted_lock o r r.answer) of_op
+
+    -- ---- the call that it answers
+
+    abbrev Serves : Type 0
+    Serves = CallOf p c t f.slot f.op
+
+    serves_what : Serves
+    serves_what = (asks_grown (the_head head c stamp) p s.grown).fly_calls c t f (s.closed c) found.flying
+
+    module _ (slot : ℕ) (serves : f.slot ≡ Some slot) (r0 : Running) (call : call_at c slot p ≡ Some r0) (asked : r0.asking ≡ Asked) (asks_it : AsksFor r0 t f.op) where
       abbrev answered : Running
       answered = record r0 { asking = Answered t r }
 
-      now : call_at c slot p4 ≡ Some answered
-      now = is_heard.calls slot ∙ rw (serves, self slot, call) refl
+      now : call_at c slot q ≡ Some answered
+      now = h.since.calls slot ∙ rw (serves, self slot, call) refl
 
       small : slot < 4
       small = subst (SmallOn slot) call (small_on (the_head head c stamp) c slot p s.grown)
 
-      of_first : LocksFirst l.work t f.op
-      of_first = locks_errand r0 l.work t f.op l.stage asks
+      does : AsksNow r0
+      does = who_asks (life_at c p) (patches_at c p) (calls_at c p) r0 (subst (Idle (life_at c p) (patches_at c p) (calls_at c p)) call (s.between.idle slot)) asked
 
-      same : of_first.wanted ≡ g.wanted
-      same = let e : of_first.wanted ∷ of_first.left ≡ g.wanted ∷ g.left = sym of_first.first ∙ g.first in cc
+      had : HadUsed c slot q r0.stage
+      had = had_all (the_head head c stamp) q h.since.good.grown c slot answered now
 
-      of_target : t ≡ g.wanted.target.0
-      of_target = of_first.of_target ∙ ap (λ (u : Use). u.target.0) same
+      objects : IsOnObjects r0.stage
+      objects = subst OnStage now (stage_on (the_head head c stamp) c slot q h.since.good.grown h.since.good.covered)
 
-      reads : ReadUse g.wanted
-      reads =
-          wants_read l.work.layout l.work.fid l.work.kind (is_reading r0 l.work g.does) g.wanted
-          (wanted_in (wants_of l.work.layout l.work.fid l.work.kind) l.work g.order g.wanted (subst (λ (us : List Use). In g.wanted us) (sym g.first) (inl refl)))
+      -- it rests, or moves on
+      rests_as : HasAsked (life_at c q) answered → Moving head c stamp q
+      rests_as rest = moving (others_of head c stamp slot (λ u. Movable (life_at c q) (call_at c u q)) (subst (Movable (life_at c q)) (sym now) (inl rest)) (moves_but slot serves))
 
-      of_op : f.op ≡ op.Enqueue g.wanted.resource PR reads.extent
-      of_op = of_first.of_op ∙ ap enqueue_of same ∙ enqueues g.wanted reads
+      locking_as : Locking r0 → Locking answered
+      locking_as l = record { work = l.work; stage = l.stage; wanting = wanting_as r0 answered l.work refl refl (λ e. let x : Enqueued l.work ≡ Bad = sym l.stage ∙ e in cc) refl l.wanting }
 
-      calls_so : call_on slot (turn_of k es).calls ≡ Some answered
-      calls_so =
-          ap (call_on slot) (turn_calls es k (client_of head c p1) refl ∙ ap (λ (j : ClientState). j.calls) (sym (client_own (limits_of head) c p1 at es (self c))) ∙ ap (calls_at c) es_so)
-          ∙ on_small c slot p4 small ∙ now
+      getting_as : Getting r0 → Getting answered
+      getting_as g =
+          let good = λ (e : r0.stage ≡ Bad). absurd (let x : Gets g.work ≡ Bad = sym g.stage ∙ e in cc) in
+          record { work = g.work; stage = g.stage; reads = reads_as r0 answered g.work g.work refl refl good refl refl refl g.reads; bytes = bytes_as r0 answered g.work refl refl good refl g.bytes; all = g.all }
 
-      -- the row asks whether a lock came
-      heeding_so : (ls : List Lock) → locks ≡ ls → heeding ≡ lock_heard (turn_of k es).who slot answered l.work r.answer ls (g.wanted ∷ g.left)
-      heeding_so ls e =
-          let j = turn_of k es in
-          ap (λ (o : Op). heeds t f o r r.answer j) of_op
-          ∙ ap (λ (o : Option ℕ). on_slot (enqueue_heard j.who r.answer locks) o j) serves
-          ∙ ap (λ (x : Option Running). on_running (enqueue_heard j.who r.answer locks) slot x) calls_so
-          ∙ ap (λ (x : Stage). enqueue_heard j.who r.answer locks slot answered x) l.stage
-          ∙ ap (λ (xs : List Lock). lock_heard j.who slot answered l.work r.answer xs l.work.left) e
-          ∙ ap (λ (us : List Use). lock_heard j.who slot answered l.work r.answer ls us) g.first
-
-      brought_so : (a : Answer) → r.answer ≡ a → locks ≡ granted_lock (op.Enqueue g.wanted.resource PR reads.extent) r a
-      brought_so a e =
-          ap (λ (ls : List Lock). ls ++ granted_lock f.op r r.answer) (bare high) ∙ ap (λ (o : Op). granted_lock o r r.answer) of_op
-          ∙ ap (granted_lock (op.Enqueue g.wanted.resource PR reads.extent) r) e
-
-      -- none came
-      waits_after : Ungranted r.answer → EntriesCovered heeding → After head c stamp (with_turn at (hears_flight t r f k) p1)
-      waits_after u cov =
-          let so = heeding_so [] (brought_so r.answer refl ∙ none_granted (op.Enqueue g.wanted.resource PR reads.extent) r r.answer u) in
-          simple_after (so ∙ not_heard (turn_of k es).who slot answered l.work r.answer g.wanted g.left (subst EntriesCovered so cov))
-
-      -- the lock came, on the whole of the object
-      module _ (cookie : Cookie) (is : r.answer ≡ answer.Granted cookie whole 0) where
-        abbrev lock : Lock
-        lock = record { cookie = cookie; resource = g.wanted.resource; ask = record { who = r.who; mode = PR; policy = Range whole } }
-
-        abbrev came : Running
-        came = at_stage answered (Came l.work lock)
-
-        abbrev p5 : List Line
-        p5 = line at (Stands slot came) ∷ p4
-
-        locks_so : locks ≡ lock ∷ []
-        locks_so = brought_so (answer.Granted cookie whole 0) is
-
-        lines_so : heeding ≡ Stands slot came ∷ []
-        lines_so = heeding_so (lock ∷ []) locks_so
-
-        apart : (u : ℕ) → (u ≡ slot → ⊥) → nat_eq slot u ≡ false
-        apart u n = by (nat_eq slot u) refl
-          where
-            by : (b : Bool) → nat_eq slot u ≡ b → b ≡ false
-            by true e = absurd (n (sym (eqb-true slot u e)))
-            by false e = refl
-
-        abbrev read_on : (q : Running) → q.call ≡ r0.call → q.file ≡ r0.file → (q.stage ≡ Bad → ⊥) → Reading q l.work
-        read_on q calls file good = reading_as r0 q l.work calls file good g
-
-        answered_good : answered.stage ≡ Bad → ⊥
-        answered_good e = let q : Enqueued l.work ≡ Bad = sym l.stage ∙ e in cc
-
-        stood : IsCovered (Stands slot came) → Good head c at p5
-        stood cov =
-            adds head c stamp p4 (Stands slot came) is_heard.good (owes_nothing p4 at (Stands slot came) is_heard.settled)
-            (record {
-              running = answered;
+      -- nothing comes of it but what the call does next
+      heard_call : ((answered.pins ≡ []) × OnNames answered) ⊎ Sizing answered → Outcome q
+      heard_call does =
+          inr (inr (inr (inl (record {
+            slot = slot;
+            target = t;
+            running = answered;
+            flight = f;
+            reply = r;
+            heard = record {
+              good = h.since.good;
+              settled = h.since.settled;
+              small = small;
               call = now;
+              others = idle_but slot serves;
+              handles = h.since.handles;
+              answered = refl;
+              does = does;
+              serves = serves;
+              heard = h.since.just;
+              learned = h.learned;
+            };
+          }))))
+
+      simple_goes : AsksNow r0 → Outcome q
+      simple_goes (inl n) = heard_call (inl (n.nothing, (n.plain, n.names)))
+      simple_goes (inr (inl z)) =
+          heard_call (inr (record { work = z.sizing.work; stage = z.sizing.stage; sized = sizes_as r0 answered z.sizing.work refl refl refl z.sizing.sized; wanted = z.sizing.wanted; left = z.sizing.left; first = z.sizing.first }))
+      simple_goes (inr (inr (inl l))) = moved (rests_as (inr (inr (inl (locking_as l)))))
+      simple_goes (inr (inr (inr g))) = moved (rests_as (inr (inr (inr (inr (inr (getting_as g)))))))
+
+      -- ---- it asked for a lock
+
+      module _ (high : 0 < t) (l : Locking r0) (of_first : LocksFirst l.work t f.op) (resource : Resource) (mode : Mode) (extent : Extent) (of_op : f.op ≡ op.Enqueue resource mode extent) where
+        abbrev g : Wanting r0 l.work
+        g = l.wanting
+
+        same : of_first.wanted ≡ g.wanted
+        same = let e : of_first.wanted ∷ of_first.left ≡ g.wanted ∷ g.left = sym of_first.first ∙ g.first in cc
+
+        of_target : t ≡ g.wanted.target.0
+        of_target = of_first.of_target ∙ ap (λ (u : Use). u.target.0) same
+
+        range : (g.wanted.policy ≡ Range extent) × (resource ≡ g.wanted.resource) × (mode ≡ g.wanted.mode)
+        range = range_of g.wanted resource mode extent (sym of_op ∙ of_first.of_op ∙ ap enqueue_of same)
+
+        lines_so : heeding ≡ lock_heard k4.who slot answered l.work r.answer (locks head c stamp p n t r f s found) (g.wanted ∷ g.left)
+        lines_so =
+            let ls = locks head c stamp p n t r f s found in
+            ap (λ (o : Op). heeds t f o r r.answer k4) of_op
+            ∙ ap (λ (o : Option ℕ). on_slot (enqueue_heard k4.who r.answer ls) o k4) serves
+            ∙ ap (λ (x : Option Running). on_running (enqueue_heard k4.who r.answer ls) slot x) (on_small c slot q small ∙ now)
+            ∙ ap (λ (x : Stage). enqueue_heard k4.who r.answer ls slot answered x) l.stage
+            ∙ ap (λ (us : List Use). lock_heard k4.who slot answered l.work r.answer ls us) g.first
+
+        brought_so : (a : Answer) → r.answer ≡ a → locks head c stamp p n t r f s found ≡ granted_lock (op.Enqueue resource mode extent) r a
+        brought_so a e =
+            ap (λ (ls : List Lock). ls ++ granted_lock f.op r r.answer) (bare head c stamp p n t r f s found high)
+            ∙ ap (λ (o : Op). granted_lock o r r.answer) of_op
+            ∙ ap (granted_lock (op.Enqueue resource mode extent) r) e
+
+        heeds_so : (a : Answer) (ls : List Lock) → r.answer ≡ a → granted_lock (op.Enqueue resource mode extent) r a ≡ ls → heeding ≡ lock_heard k4.who slot answered l.work a ls (g.wanted ∷ g.left)
+        heeds_so a ls e so =
+            lines_so
+            ∙ ap (λ (ks : List Lock). lock_heard k4.who slot answered l.work r.answer ks (g.wanted ∷ g.left)) (brought_so a e ∙ so)
+            ∙ ap (λ (x : Answer). lock_heard k4.who slot answered l.work x ls (g.wanted ∷ g.left)) e
+
+        left_objects : OnObjects l.work.left
+        left_objects = subst IsOnObjects l.stage objects
+
+        had_work : HadUsed c slot q (Enqueued l.work)
+        had_work = subst (λ (x : Stage). HadUsed c slot q x) l.stage had
+
+        abbrev wants_as : (x : Stage) → (x ≡ Bad → ⊥) → Wanting (at_stage answered x) l.work
+        wants_as x good = wanting_as r0 (at_stage answered x) l.work refl refl good refl g
+
+        -- none came
+        rests_still : heeding ≡ [] → Outcome (with_turn at heeding q)
+        rests_still none = subst (λ (fs : List Entry). Outcome (with_turn at fs q)) (sym none) (moved (rests_as (inr (inr (inl (locking_as l))))))
+
+        stays_used : (u : _) → In u l.work.used → In u (used_in answered.stage)
+        stays_used u i = subst (λ (x : Stage). In u (used_in x)) (sym l.stage) i
+
+        -- it came
+        module _ (cookie : Cookie) (given : Extent) (size : ℕ) (is : r.answer ≡ answer.Granted cookie given size) where
+          abbrev lock : Lock
+          lock = record { cookie = cookie; resource = resource; ask = record { who = r.who; mode = mode; policy = Range given } }
+
+          abbrev came : Running
+          came = at_stage answered (Came l.work lock)
+
+          abbrev q1 : List Line
+          q1 = line at (Stands slot came) ∷ q
+
+          locks_so : locks head c stamp p n t r f s found ≡ lock ∷ []
+          locks_so = brought_so (answer.Granted cookie given size) is
+
+          came_ok : StandsOk q at c slot came
+          came_ok =
+              record {
+                running = answered;
+                call = now;
+                small = small;
+                still = λ e. absurd (cc);
+                stage = Came l.work lock;
+                pins = answered.pins;
+                is = refl;
+                how = inr (inr (inr (inr (inr (
+                  refl,
+                  inl (record {
+                    work = l.work;
+                    lock = lock;
+                    is = refl;
+                    from = inl (l.stage, (record { target = t; reply = r; answered = refl; heard = h.since.just }, f.op, subst (λ (ls : List Lock). In lock ls) (sym locks_so) (inl refl)));
+                  }),
+                )))));
+                had = had_work;
+                uses = λ u i. inl (stays_used u i);
+              }
+
+          stands : Stood head c stamp slot came q
+          stands = stood head c stamp slot came q h.since.good h.since.settled came_ok left_objects
+
+          came_after : Outcome (with_turn at heeding q)
+          came_after =
+              subst (λ (fs : List Entry). Outcome (with_turn at fs q)) (sym (heeds_so (answer.Granted cookie given size) (lock ∷ []) is refl))
+              (inr (inr (inr (inr (record {
+                slot = slot;
+                running = came;
+                come = record {
+                  good = stands.good;
+                  settled = tt;
+                  small = small;
+                  call = stands.call;
+                  others = λ u other. stood_idle head c stamp slot answered came q now refl stands u other (idle_but slot serves u other);
+                  handles = h.since.handles;
+                  coming = record {
+                    work = l.work;
+                    lock = lock;
+                    stage = refl;
+                    still = λ e. absurd (cc);
+                    wanting = wants_as (Came l.work lock) (λ e. absurd (cc));
+                    object = subst (λ (u : ℕ). 0 < u) of_target high;
+                    holding = held_as t lock false;
+                    held = one_held head c stamp p n t r f s found high lock locks_so;
+                    of_target = of_target;
+                    is = refl;
+                    of_object = range.1;
+                    ranged = tt;
+                    how = inl refl;
+                  };
+                };
+              })))))
+
+        -- it waits for it
+        module _ (cookie : Cookie) (is : r.answer ≡ answer.Waiting cookie) where
+          abbrev waits : Running
+          waits = at_stage answered (Waits l.work g.wanted.target (waiting_lock k4.who cookie g.wanted) false)
+
+          wait_ok : StandsOk q at c slot waits
+          wait_ok =
+              record {
+                running = answered;
+                call = now;
+                small = small;
+                still = λ e. absurd (cc);
+                stage = Waits l.work g.wanted.target (waiting_lock k4.who cookie g.wanted) false;
+                pins = answered.pins;
+                is = refl;
+                how = inr (inr (inr (inr (inr (
+                  refl,
+                  inr (inl (record {
+                    work = l.work;
+                    wanted = g.wanted;
+                    left = g.left;
+                    first = g.first;
+                    before = l.stage;
+                    answers = record { target = t; reply = r; answered = refl; heard = h.since.just };
+                    of_target = of_target;
+                    flight = f;
+                    now = h.now (bare head c stamp p n t r f s found high);
+                    extent = extent;
+                    policy = range.0;
+                    of_op = of_op ∙ ap (λ (x : Resource). op.Enqueue x mode extent) range.1 ∙ ap (λ (m : Mode). op.Enqueue g.wanted.resource m extent) range.2;
+                    cookie = cookie;
+                    tells = is;
+                    is = refl;
+                  })),
+                )))));
+                had = had_work;
+                uses = λ u i. inl (stays_used u i);
+              }
+
+          stood_so : Stood head c stamp slot waits q
+          stood_so = stood head c stamp slot waits q h.since.good h.since.settled wait_ok (subst (λ (u : ℕ). 0 < u) of_target high, left_objects)
+
+          waiting : Waiting (life_at c q) waits
+          waiting =
+              record {
+                work = l.work;
+                target = g.wanted.target;
+                lock = waiting_lock k4.who cookie g.wanted;
+                marked = false;
+                stage = refl;
+                still = λ e. absurd (cc);
+                wanting = wants_as (Waits l.work g.wanted.target (waiting_lock k4.who cookie g.wanted) false) (λ e. absurd (cc));
+                of_target = refl;
+                of_lock = refl;
+                object = subst (λ (u : ℕ). 0 < u) of_target high;
+              }
+
+          wait_after : Outcome (with_turn at heeding q)
+          wait_after =
+              subst (λ (fs : List Entry). Outcome (with_turn at fs q)) (sym (heeds_so (answer.Waiting cookie) [] is refl))
+              (moved (record {
+                good = stood_so.good;
+                settled = tt;
+                moves =
+                    others_of head c stamp slot (λ u. Movable (life_at c q) (call_at c u (line at (Stands slot waits) ∷ q))) (subst (Movable (life_at c q)) (sym stood_so.call) (inl (inr (inr (inr (inl waiting))))))
+                    (λ u other. subst (Movable (life_at c q)) (sym (stood_so.others u other)) (moves_but slot serves u other));
+                handles = h.since.handles;
+              }))
+
+        enqueue_after : (a : Answer) → r.answer ≡ a → Outcome (with_turn at heeding q)
+        enqueue_after (answer.Granted cookie given size) e = came_after cookie given size e
+        enqueue_after (answer.Waiting cookie) e = wait_after cookie e
+        enqueue_after a e = rests_still (heeds_so a [] e refl)
+
+        -- so is the count of those that wait
+        waits_so : IsToWait c (p1 head c stamp p n t r f s found) t f r
+        waits_so =
+            record {
+              bare = bare head c stamp p n t r f s found high;
+              slot = slot;
+              of_slot = serves;
+              small = small;
+              running = r0;
+              call = call;
+              work = l.work;
+              stage = l.stage;
+              wanted = g.wanted;
+              left = g.left;
+              first = g.first;
+              of_target = sym of_target;
+            }
+
+      -- ---- it fetched a page
+
+      module _ (g : Getting r0) (z : List Line) (m : Marked z) (settled : Settled z) where
+        abbrev anew : Running
+        anew = at_stage answered (Looks g.work)
+
+        call_now : call_at c slot z ≡ Some answered
+        call_now = m.calls slot ∙ now
+
+        look_ok : StandsOk z at c slot anew
+        look_ok =
+            record {
+              running = answered;
+              call = call_now;
               small = small;
               still = λ e. absurd (cc);
-              stage = Came l.work lock;
+              stage = Looks g.work;
               pins = answered.pins;
               is = refl;
-              how = inr (how (read_on answered refl refl answered_good).does);
-              had = subst (λ (x : Stage). HadUsed c slot p4 x) l.stage (had_all (the_head head c stamp) p4 is_heard.good.grown c slot answered now);
-            }) (λ u q. tt) cov refl
-          where
-            how : ReadsOn answered l.work ⊎ StatsOn answered l.work → LockStand p4 c answered (Came l.work lock) ⊎ StatStand p4 at c answered (Came l.work lock) answered.pins
-            how (inl d) = inl (record { read = d.read; work = l.work; is = inr (lock, refl, (t, r, refl)) })
-            how (inr d) =
-                inr (record {
-                  stat = record {
-                    path = d.path;
-                    stats = d.stats;
-                    good = d.good;
-                    fid = l.work.fid;
-                    mode = d.mode;
-                    links = d.links;
-                    layout = l.work.layout;
-                    from = inr (inr (record { work = l.work; stage = inl l.stage; kind = d.kind; of_fid = refl; of_layout = refl; pinned = λ name i. i }));
-                  };
-                  work = l.work;
-                  kind = d.kind;
-                  of_fid = refl;
-                  of_layout = refl;
-                  is = inr (lock, refl, (t, r, refl));
-                })
+              how = inr (inr (inr (inr (inr (refl, inr (inr (inr (inr (record { work = g.work; is = refl; from = inr (g.stage, record { target = t; reply = r; answered = refl; heard = m.just }) })))))))));
+              had = subst (λ (x : Stage). HadUsed c slot z x) g.stage (had_all (the_head head c stamp) z m.good.grown c slot answered call_now);
+              uses = λ u i. inl (subst (λ (x : Stage). In u (used_in x)) (sym g.stage) i);
+            }
 
-        stands : call_at c slot p5 ≡ Some came
-        stands = call_line head c stamp slot p4 (Stands slot came) ∙ rw (self slot) refl
+        anew_stood : Stood head c stamp slot anew z
+        anew_stood = stood head c stamp slot anew z m.good settled look_ok (subst IsOnObjects g.stage objects)
 
-        other : (u : ℕ) → (u ≡ slot → ⊥) → call_at c u p5 ≡ call_at c u p4
-        other u n = call_line head c stamp u p4 (Stands slot came) ∙ rw (apart u n) refl
+        looking : Looking anew
+        looking =
+            record {
+              work = g.work;
+              stage = refl;
+              still = λ e. absurd (cc);
+              works = inl (bytes_as r0 anew g.work refl refl (λ e. absurd (cc)) refl g.bytes);
+              some = λ x. absurd (let e = sym g.reads.read.reads ∙ x.glimpses in cc);
+            }
 
-        more : (v : ℕ) → count_on v (calls_at c p4) ≤ count_on v (calls_at c p5)
-        more v = count_more c v p4 p5 (λ u e. by u (nat_eq u slot) refl e)
-          where
-            by : (u : ℕ) (b : Bool) → nat_eq u slot ≡ b → is_on v (call_at c u p4) ≡ true → is_on v (call_at c u p5) ≡ true
-            by u true q e =
-                let is_slot : u ≡ slot = eqb-true u slot q in
-                ap (λ (w : ℕ). is_on v (call_at c w p5)) is_slot ∙ ap (is_on v) stands ∙ sym (ap (is_on v) now) ∙ ap (λ (w : ℕ). is_on v (call_at c w p4)) (sym is_slot) ∙ e
-            by u false q e = ap (is_on v) (other u (λ w. let same : nat_eq u slot ≡ true = ap (λ (x : ℕ). nat_eq x slot) w ∙ self slot in absurd (cc))) ∙ e
+        looks_after : Moving head c stamp (line at (Stands slot anew) ∷ z)
+        looks_after =
+            record {
+              good = anew_stood.good;
+              settled = tt;
+              moves =
+                  others_of head c stamp slot (λ u. Movable (life_at c (line at (Stands slot anew) ∷ z)) (call_at c u (line at (Stands slot anew) ∷ z)))
+                  (subst (Movable (life_at c z)) (sym anew_stood.call) (inr (inr (inr looking))))
+                  (λ u other. subst (Movable (life_at c z)) (sym (anew_stood.others u other)) (subst (λ (who : Who). Movable who (call_at c u z)) (sym m.life) (subst (Movable (life_at c q)) (sym (m.calls u)) (moves_but slot serves u other))));
+              handles = m.handles;
+            }
 
-        held_there : In (held_as t lock false) (held_at c p4)
-        held_there = subst (λ (ls : List Lock). In (held_as t lock false) (held_at c (with_turn at (learns t f.op r.answer ls) p3))) (sym (bare high)) shown
-          where
-            shown : In (held_as t lock false) (held_at c p3)
-            shown =
-                subst (λ (ls : List Lock). In (held_as t lock false) (held_at c (with_turn at (holds t (size_with r.answer) r.seen ls) p2))) (sym locks_so)
-                (subst (λ (hs : List HeldLock). In (held_as t lock false) hs) (sym (held_so t r lock p2)) (with_self (held_as t lock false) (held_at c p2)))
+        look_lines : on_slot looks_again f.slot k4 ≡ Stands slot anew ∷ []
+        look_lines = ap (λ (o : Option ℕ). on_slot looks_again o k4) serves ∙ ap (on_running looks_again slot) (on_small c slot q small ∙ now) ∙ ap (looks_again slot answered) g.stage
 
-        came_after : EntriesCovered heeding → After head c stamp (with_turn at (hears_flight t r f k) p1)
-        came_after cov =
-            subst (After head c stamp) (sym (heard_so ∙ ap (λ (fs : List Entry). with_turn at fs p4) lines_so))
-            (inr (record {
-              slot = slot;
-              target = t;
-              running = came;
-              flight = f;
-              reply = r;
-              heard = record {
-                good = stood (subst EntriesCovered lines_so cov).0;
-                settled = tt;
-                small = small;
-                call = stands;
-                others =
-                    λ u n. subst (Idle (calls_at c p5)) (sym (other u n))
-                    (idle_more (calls_at c p4) (calls_at c p5) more (call_at c u p4) (waits_on t f r p p4 s.between.idle is_heard slot u serves n));
-                handles = is_heard.handles;
-                answered = refl;
-                does = inr (record {
-                  work = l.work;
-                  lock = lock;
-                  stage = refl;
-                  reading = read_on came refl refl (λ e. absurd (cc));
-                  object = subst (λ (u : ℕ). 0 < u) of_target high;
-                  held = subst (λ (u : ℕ). In (held_as u lock false) (held_at c p5)) of_target held_there;
-                  of_object = refl;
-                  whole = refl;
-                });
-                serves = serves;
-                heard = is_heard.just;
-                learned = is_heard.learned;
-              };
-            }))
+      get_after : (resource : Resource) (cookie : Cookie) (page : ℕ) (bs : List ℕ) → f.op ≡ op.Get resource cookie page → r.answer ≡ answer.Content bs → 0 < t → Getting r0
+          → Outcome (with_turn at (heeds t f (op.Get resource cookie page) r (answer.Content bs) k4) q)
+      get_after resource cookie page bs of_op of_answer high g =
+          let name = named (record { 0 = t }) cookie in
+          let ms = page_heard resource cookie page bs (held_of_name name (held_at c q)) in
+          let more = on_slot looks_again f.slot k4 in
+          let none = none_held head c stamp p n t r f s found high (brought_none resource cookie page of_op high) in
+          let marks : marks_of c q ≡ ms = marks_so (op.Get resource cookie page) (answer.Content bs) of_op of_answer ∙ ap (λ (hs : List HeldLock). page_heard resource cookie page bs (held_of_name name hs)) (sym none) in
+          let z = page_marked resource cookie page bs (held_of_name name (held_at c q)) q start h.since.settled marks in
+          subst Outcome (sym (turn_more at ms more q ∙ ap (λ (fs : List Entry). with_turn at fs (with_turn at ms q)) (look_lines g (with_turn at ms q) z.0 z.1))) (moved (looks_after g (with_turn at ms q) z.0 z.1))
 
-      lock_after : EntriesCovered heeding → After head c stamp (with_turn at (hears_flight t r f k) p1)
-      lock_after cov =
-          ⊎_elim (λ (u : Ungranted r.answer). waits_after u cov) (λ (q : Grants (only t p) r.who r.xid.0 r.answer). came_after q.lock.cookie q.is cov)
-          (reply_grants (the_head head c stamp) t p s.grown (Target t) (Client c) r was)
+    -- ---- all of it
 
-    -- the call that it answers asked for that lock
-    not_names : (r0 : Running) → r0.stage ≡ Plain → errand r0 ≡ Some (record { target = t; op = f.op }) → IsLock f.op → ⊥
-    not_names r0 plain asks lock = names_not f.op (becomes_names r0.file r0.call f.op (plain_errand r0 t f.op plain asks).1) lock
+    -- the call that a request serves, if any
+    by_slot : (A : Type 0) → (IsBack f.op → f.slot ≡ None → A)
+        → ((slot : ℕ) (serves : f.slot ≡ Some slot) (r0 : Running) (call : call_at c slot p ≡ Some r0) (asked : r0.asking ≡ Asked) (asks_it : AsksFor r0 t f.op) → A) → A
+    by_slot A back served = by f.slot refl serves_what
       where
-        names_not : (o : Op) → IsNames o → IsLock o → ⊥
-        names_not (op.Enqueue resource mode extent) n k = n
-        names_not o n k = k
+        by : (o : Option ℕ) → f.slot ≡ o → CallOf p c t o f.op → A
+        by None e k = back k e
+        by (Some slot) e k = served slot e k.0 k.1 k.2 k.3
 
-    is_locking : (calls : List (Option Running)) (r0 : Running) → errand r0 ≡ Some (record { target = t; op = f.op }) → IsLock f.op → Idle calls (Some r0) → Locking r0
-    is_locking calls r0 asks lock (inl (inl (n, inl q))) = absurd (not_names r0 q.1 asks lock)
-    is_locking calls r0 asks lock (inl (inl (n, inr q))) = absurd (subst IsLock (sizes_errand r0 q.0.work t f.op q.0.stage asks).of_op lock)
-    is_locking calls r0 asks lock (inl (inr l)) = l
-    is_locking calls r0 asks lock (inr w) = absurd (not_names r0 w.plain asks lock)
+    -- nothing is made of it
+    nothing_after : Outcome q
+    nothing_after = by_slot (Outcome q) (λ back e. moved (moving (back_moves e))) (λ slot serves r0 call asked asks_it. simple_goes slot serves r0 call asked asks_it (does slot serves r0 call asked asks_it))
 
-    flight_after : EntriesCovered (hears_flight t r f k) → After head c stamp (with_turn at (hears_flight t r f k) p1)
-    flight_after covered = by asks_what
+    quiet_after : heeding ≡ [] → Outcome (with_turn at heeding q)
+    quiet_after none = subst (λ (fs : List Entry). Outcome (with_turn at fs q)) (sym none) nothing_after
+
+    not_simple_lock : (o : Op) → IsSimple o → IsLockOp o → ⊥
+    not_simple_lock (op.Enqueue resource mode extent) m k = m
+    not_simple_lock o m k = k
+
+    not_simple_bytes : (o : Op) → IsSimple o → IsBytes o → ⊥
+    not_simple_bytes (op.Get resource cookie page) m k = m
+    not_simple_bytes (op.Put resource cookie offset bs) m k = m
+    not_simple_bytes (op.Cut resource cookie size) m k = m
+    not_simple_bytes o m k = k
+
+    not_back_lock : (o : Op) → IsBack o → IsLock o → ⊥
+    not_back_lock (op.Enqueue resource mode extent) b k = b
+    not_back_lock o b k = k
+
+    enqueued : 0 < t → (resource : Resource) (mode : Mode) (extent : Extent) → f.op ≡ op.Enqueue resource mode extent → (A : Type 0)
+        → ((slot : ℕ) (serves : f.slot ≡ Some slot) (r0 : Running) (call : call_at c slot p ≡ Some r0) (asked : r0.asking ≡ Asked) (asks_it : AsksFor r0 t f.op) (l : Locking r0) → LocksFirst l.work t f.op → A) → A
+    enqueued high resource mode extent of_op A locked = by_slot A (λ back e. absurd (not_back_lock f.op back (subst IsLock (sym of_op) tt))) served
       where
-        served : (0 < t) → IsLock f.op → (o : Option ℕ) → f.slot ≡ o → CallOf p c t o f.op → After head c stamp (with_turn at (hears_flight t r f k) p1)
-        served high lock None e q = absurd q
-        served high lock (Some slot) e q =
-            lock_after high slot e q.0 q.1 q.3 (is_locking (calls_at c p) q.0 q.3 lock (subst (Idle (calls_at c p)) q.1 (s.between.idle slot)))
-            (covered_right es heeding covered)
+        served : (slot : ℕ) (serves : f.slot ≡ Some slot) (r0 : Running) (call : call_at c slot p ≡ Some r0) (asked : r0.asking ≡ Asked) (asks_it : AsksFor r0 t f.op) → A
+        served slot serves r0 call asked asks_it =
+            let k = locks_of r0 t f.op (subst IsLock (sym of_op) tt) asks_it in
+            let l = locking_of r0 k.0 k.1 (does slot serves r0 call asked asks_it) in
+            let same : k.0 ≡ l.work = let e : Enqueued k.0 ≡ Enqueued l.work = sym k.1 ∙ l.stage in cc in
+            locked slot serves r0 call asked asks_it l (subst (λ (w : Work). LocksFirst w t f.op) same k.2)
 
-        by : IsSimple f.op ⊎ ((0 < t) × IsLock f.op) → After head c stamp (with_turn at (hears_flight t r f k) p1)
-        by (inl simple) = simple_after (heeds_nothing t f f.op r r.answer (turn_of k es) simple)
-        by (inr lock) = served lock.0 lock.1 f.slot refl ((asks_grown (the_head head c stamp) p s.grown).fly_calls c t f (s.closed c) found.flying)
+    lock_after : 0 < t → IsLock f.op → Outcome (with_turn at heeding q)
+    lock_after high lock =
+        let o = lock_is f.op lock in
+        enqueued high o.0 o.1 o.2 o.3 (Outcome (with_turn at heeding q))
+        (λ slot serves r0 call asked asks_it l of_first. enqueue_after slot serves r0 call asked asks_it high l of_first o.0 o.1 o.2 o.3 r.answer refl)
+
+    -- bytes of an object
+    back_none : IsBack f.op → f.slot ≡ None
+    back_none back = by_slot (f.slot ≡ None) (λ b e. e) (λ slot serves r0 call asked asks_it. absurd (not_back r0 t f.op back asks_it))
+
+    bytes_after : 0 < t → (o : Op) → f.op ≡ o → IsBytes o → (a : Answer) → r.answer ≡ a → Outcome (with_turn at (heeds t f o r a k4) q)
+    bytes_after high (op.Get resource cookie page) of_op b (answer.Content bs) of_answer =
+        by_slot (Outcome (with_turn at (heeds t f (op.Get resource cookie page) r (answer.Content bs) k4) q)) (λ back e. absurd (subst IsBack of_op back))
+        (λ slot serves r0 call asked asks_it.
+        let g = gets_of r0 t resource cookie page (subst (AsksFor r0 t) of_op asks_it) in
+        get_after slot serves r0 call asked asks_it resource cookie page bs of_op of_answer high (getting_of r0 g.work g.stage (does slot serves r0 call asked asks_it)))
+    bytes_after high (op.Put resource cookie offset bs) of_op b answer.Done of_answer =
+        moved (marked_moves (back_none (subst IsBack (sym of_op) tt)) (line at (Grows resource (Put offset bs)) ∷ line at (Fills resource offset bs) ∷ line at (Acks resource) ∷ q)
+        (put_marked resource offset bs (marks_so (op.Put resource cookie offset bs) answer.Done of_op of_answer)) tt)
+    bytes_after high (op.Cut resource cookie size) of_op b answer.Done of_answer =
+        moved (marked_moves (back_none (subst IsBack (sym of_op) tt)) (line at (Grows resource (Cut size)) ∷ line at (Zeroes resource size) ∷ line at (Acks resource) ∷ q)
+        (cut_marked resource size (marks_so (op.Cut resource cookie size) answer.Done of_op of_answer)) tt)
+    bytes_after high (op.Get resource cookie page) of_op b a of_answer = nothing_after
+    bytes_after high (op.Put resource cookie offset bs) of_op b a of_answer = nothing_after
+    bytes_after high (op.Cut resource cookie size) of_op b a of_answer = nothing_after
+    bytes_after high o of_op b a of_answer = absurd b
+
+    lines_after : Outcome (with_turn at lines (p1 head c stamp p n t r f s found))
+    lines_after = subst Outcome (sym heard_so) (by (asks_what head c stamp p n t r f s found))
+      where
+        by : IsSimple f.op ⊎ ((0 < t) × (IsLock f.op ⊎ IsBytes f.op)) → Outcome (with_turn at heeding q)
+        by (inl simple) = quiet_after (heeds_nothing t f f.op r r.answer k4 simple)
+        by (inr k) = ⊎_elim (λ (lock : IsLock f.op). lock_after k.0 lock) (λ (b : IsBytes f.op). bytes_after k.0 f.op refl b r.answer refl) k.1
+
+    -- ---- and of the locks that are waited for
+
+    lock_high : IsLockOp f.op → 0 < t
+    lock_high lock = by (asks_what head c stamp p n t r f s found)
+      where
+        by : IsSimple f.op ⊎ ((0 < t) × (IsLock f.op ⊎ IsBytes f.op)) → 0 < t
+        by (inl simple) = absurd (not_simple_lock f.op simple lock)
+        by (inr k) = k.0
+
+    fits_reply : ReplyFits c (p1 head c stamp p n t r f s found) t f r
+    fits_reply =
+        record {
+          target = ⊎_elim (λ (z : t ≡ 0). inl (z, (λ lock. let high = lock_high lock in omega (arith, high, z)), low z)) (λ (b : r.locks ≡ []). inr b) (first head c stamp p n t r f s found);
+          bytes = λ b. ⊎_elim (λ (simple : IsSimple f.op). absurd (not_simple_bytes f.op simple b)) (λ (k : (0 < t) × (IsLock f.op ⊎ IsBytes f.op)). bare head c stamp p n t r f s found k.0) (asks_what head c stamp p n t r f s found);
+          wait = λ resource mode extent cookie of_op of_answer.
+              let high = lock_high (subst IsLockOp (sym of_op) tt) in
+              enqueued high resource mode extent of_op (IsToWait c (p1 head c stamp p n t r f s found) t f r) (λ slot serves r0 call asked asks_it l of_first. waits_so slot serves r0 call asked asks_it high l of_first resource mode extent of_op);
+        }
+      where
+        low : t ≡ 0 → (k : ℕ) → awaits_of (life_at c (p1 head c stamp p n t r f s found)) k (only t (p1 head c stamp p n t r f s found)) ≡ 0
+        low z k =
+            (took_awaits head c stamp p n (Target t) (message.Reply r) s.awaits).counts t k
+            ∙ ap (λ (u : ℕ). waiting_for (lock_named u k) (calls_at c p)) z
+            ∙ rw (none_on 0, none_on 1, none_on 2, none_on 3) refl
+          where
+            none_on : (slot : ℕ) → is_waiter (lock_named 0 k) (call_at c slot p) ≡ false
+            none_on slot = none_low (life_at c p) (patches_at c p) (calls_at c p) (call_at c slot p) k (s.between.idle slot)
+
+    lines_awaits : Awaits c (with_turn at lines (p1 head c stamp p n t r f s found))
+    lines_awaits = heard_awaits head c stamp t r f (p1 head c stamp p n t r f s found) fits_reply (took_awaits head c stamp p n (Target t) (message.Reply r) s.awaits)
+
+  abbrev pub Comes : List Line → Type 0
+  Comes z = Outcome z × Awaits c z
 
   pub reply_after : (p : List Line) (n t : ℕ) (r : ReplyTo) → Starts head c stamp p → t ≤ head.osts → Sent p n (Target t) (Client c) (message.Reply r)
-      → EntriesCovered (comes_by at (Target t) (message.Reply r) (client_of head c p))
-      → After head c stamp (with_turn at (comes_by at (Target t) (message.Reply r) (client_of head c p)) (line at (Take n (Target t) (message.Reply r)) ∷ p))
-  reply_after p n t r s there sent covered = by_life (is_present r.who r.boot t k) refl covered
+      → Comes (with_turn at (comes_by at (Target t) (message.Reply r) (client_of head c p)) (line at (Take n (Target t) (message.Reply r)) ∷ p))
+  reply_after p n t r s there sent = by_life (is_present r.who r.boot t k) refl
     where
       k : ClientState
       k = client_of head c p
@@ -663,87 +693,31 @@ module _ (head : table.Head) (c : ℕ) (stamp : Stamp) where
       here : List Line
       here = line at (Take n (Target t) (message.Reply r)) ∷ p
 
-      quiet : After head c stamp here
-      quiet = inl (took_rested head c stamp p n t (message.Reply r) s sent)
+      quiet : Comes here
+      quiet = (inl (took_rested head c stamp p n t (message.Reply r) s sent), took_awaits head c stamp p n (Target t) (message.Reply r) s.awaits)
 
       flights_so : (import_of t k.imports).flights ≡ flights_at c t p
       flights_so = ap (λ (i : Import). i.flights) (import_there head c stamp p t there)
 
-      by_fit : (f : Flight) → find_flight r.xid.0 (import_of t k.imports).flights ≡ Some f → is_present r.who r.boot t k ≡ true → (b : Bool) → answer_fits f.op r.answer ≡ b
-          → EntriesCovered (hears_fitting t r f k b) → After head c stamp (with_turn at (hears_fitting t r f k b) here)
-      by_fit f found present false fits cov = quiet
-      by_fit f found present true fits cov =
+      by_fit : (f : Flight) → find_flight r.xid.0 (import_of t k.imports).flights ≡ Some f → is_present r.who r.boot t k ≡ true → (b : Bool) → answer_fits f.op r.answer ≡ b → Comes (with_turn at (hears_fitting t r f k b) here)
+      by_fit f found present false fits = quiet
+      by_fit f found present true fits =
           let own = and_parts (same_life r.who k.who) (nat_eq r.boot (import_of t k.imports).boot) present in
           let i = found_in r.xid.0 (import_of t k.imports).flights f found in
-          flight_after p n t r f s (record {
+          let finds : Finds head c stamp p n t r f = record {
             sent = sent;
             flying = subst (λ (fs : List Flight). In f fs) flights_so i.0;
             xid = i.1;
             who = life_is r.who k.who own.0;
             boot = eqb-true r.boot (import_of t k.imports).boot own.1 ∙ ap (λ (j : Import). j.boot) (import_there head c stamp p t there);
             fits = fits;
-          }) cov
+          } in
+          (lines_after p n t r f s finds, lines_awaits p n t r f s finds)
 
-      by_flight : (o : Option Flight) → find_flight r.xid.0 (import_of t k.imports).flights ≡ o → is_present r.who r.boot t k ≡ true → EntriesCovered (hears t r k o) → After head c stamp (with_turn at (hears t r k o) here)
-      by_flight None found present cov = quiet
-      by_flight (Some f) found present cov = by_fit f found present (answer_fits f.op r.answer) refl cov
+      by_flight : (o : Option Flight) → find_flight r.xid.0 (import_of t k.imports).flights ≡ o → is_present r.who r.boot t k ≡ true → Comes (with_turn at (hears t r k o) here)
+      by_flight None found present = quiet
+      by_flight (Some f) found present = by_fit f found present (answer_fits f.op r.answer) refl
 
-      by_life : (b : Bool) → is_present r.who r.boot t k ≡ b → EntriesCovered (replied t r k b) → After head c stamp (with_turn at (replied t r k b) here)
-      by_life false present cov = quiet
-      by_life true present cov = by_flight (find_flight r.xid.0 (import_of t k.imports).flights) refl present cov
-
-  -- ---- a lock is called back
-
-  pub block_after : (p : List Line) (n : ℕ) (who : Who) (boot : ℕ) (cookie : Cookie) → Starts head c stamp p → Sent p n (Target 0) (Client c) (message.Block who boot cookie)
-      → After head c stamp (with_turn at (comes_by at (Target 0) (message.Block who boot cookie) (client_of head c p)) (line at (Take n (Target 0) (message.Block who boot cookie)) ∷ p))
-  block_after p n who boot cookie s sent = by_life (same_life who k.who) refl
-    where
-      k : ClientState
-      k = client_of head c p
-
-      name : LockName
-      name = named (record { 0 = 0 }) cookie
-
-      p1 : List Line
-      p1 = line at (Take n (Target 0) (message.Block who boot cookie)) ∷ p
-
-      took : Rested head c at p1
-      took = took_rested head c stamp p n 0 (message.Block who boot cookie) s sent
-
-      was : who ≡ life_at c p → Was (only 0 p) (Target 0) (Client c) (message.Block (life_at c p) boot cookie)
-      was own = subst (λ (w : Who). Was (only 0 p) (Target 0) (Client c) (message.Block w boot cookie)) own (told_by_target p n 0 (Client c) (message.Block who boot cookie) sent)
-
-      nothing_flies : (import_of 0 k.imports).flights ≡ [] → flights_of (life_of c (only 0 p)) (only 0 p) ≡ []
-      nothing_flies e = sym (flights_now (the_head head c stamp) c 0 p s.grown) ∙ sym (ap (λ (i : Import). i.flights) (import_zero head c stamp p)) ∙ e
-
-      -- one that isn't known is given back, where no reply can bring it
-      unknown : who ≡ life_at c p → is_held name (held_at c p) ≡ false → (fs : List Flight) → (import_of 0 k.imports).flights ≡ fs → After head c stamp (with_turn at (cancels_unknown k.who name (import_of 0 k.imports).boot fs) p1)
-      unknown own free (f ∷ fs) e = inl took
-      unknown own free [] e =
-          inl (record {
-            good =
-                adds head c stamp p1 x took.good (owes_nothing p1 at x tt) tt
-                (at_zero head c stamp (λ (t : ℕ). story_guards.CancelOk (only t p1) c 0 (life_at c p) (import_of 0 k.imports).boot cookie) (record {
-                  of_life = life_is_of c 0 p;
-                  of_boot = ap (λ (i : Import). i.boot) (import_zero head c stamp p) ∙ known_is c 0 p;
-                  free = held_name c p1 name ∙ free;
-                  cause = inr (nothing_flies e, (0, boot, was own));
-                  there = λ h i. (held_back c 0 p1 h i).1;
-                })) tt refl;
-            settled = tt;
-            idle = took.idle;
-            handles = took.handles;
-          })
-        where
-          x : Entry
-          x = Send (Target 0) (message.Cancel (life_at c p) (import_of 0 k.imports).boot cookie)
-
-      by_held : who ≡ life_at c p → (b : Bool) → is_held name (held_at c p) ≡ b → After head c stamp (with_turn at (blocked_held name k b) p1)
-      by_held own true e = inl (mark_good head c stamp p1 name took (inr (who, boot, (refl, refl, refl))))
-      by_held own false e =
-          subst (λ (o : Option ℕ). After head c stamp (with_turn at (blocked_waiting name k o) p1)) (sym (no_waiter name 0 (calls_at c p) (calls_wait c p s.between.idle)))
-          (unknown own e (import_of 0 k.imports).flights refl)
-
-      by_life : (b : Bool) → same_life who k.who ≡ b → After head c stamp (with_turn at (blocked name k b) p1)
-      by_life false e = inl took
-      by_life true e = by_held (life_is who k.who e) (is_held name (held_at c p)) refl
+      by_life : (b : Bool) → is_present r.who r.boot t k ≡ b → Comes (with_turn at (replied t r k b) here)
+      by_life false present = quiet
+      by_life true present = by_flight (find_flight r.xid.0 (import_of t k.imports).flights) refl present

@@ -1,37 +1,39 @@
--- What is in flight is sent again, a life that isn't served yet asks to be, and a target that recovers is told what the life has for it: at
--- each target when time goes on, and at one that says that it serves the life. A new life asks each target.
-use Rattle.std.proofs.Common.{◌≡◌, ℕ, zero, suc, ◌+◌, ◌≤◌, Bool, true, false, List, [], ◌∷◌, ◌++◌, inl, inr, ⊎_elim, refl, sym, subst, ap, ◌∙◌}
+-- What is in flight is sent again, where the locks are that calls wait for is asked, a life that isn't served yet asks to be, and a target
+-- that recovers is told what the life has for it, as time goes on; where a target says that it serves the life, what is in flight there is
+-- sent again, and a call that was forgotten looks for its locks anew. A new life asks each target.
+use Rattle.std.proofs.Common.{◌≡◌, ℕ, zero, suc, ◌+◌, ◌<◌, ◌≤◌, Bool, true, false, List, [], ◌∷◌, ◌++◌, inl, inr, ⊎_elim, Option, Some, None, refl, sym, subst, ap, ◌∙◌, arith}
 use Rattle.std.specs.Prelude.{nat_eq, ◌&&◌, if◌then◌else◌, length, filter, map}
 use Rattle.std.specs.List.{range_with_len}
-use Rattle.std.proofs.lemmas.Bool.{and_parts, eqb-true}
+use Rattle.std.proofs.lemmas.Bool.{cond_both, and_parts, eqb-true, eq-eqb}
 use Rattle.lu_base.specs.declared.ids.At.{At}
 use Rattle.lu_base.specs.declared.ids.Node.{Node}
 use Rattle.lu_base.specs.declared.ids.Node.TheVariants.{Client, Target}
 use Rattle.lu_base.specs.declared.ids.Stamp.{Stamp}
+use Rattle.lu_base.specs.declared.ids.TargetId.{TargetId}
 use Rattle.lu_base.specs.declared.ids.Txn.{Txn as TxnOf}
 use Rattle.lu_base.specs.declared.ids.Who.{Who}
+use Rattle.lu_base.specs.declared.locks.Lock.{Lock}
 use Rattle.lu_msg.specs.declared.messages.Message.{Message}
 use Rattle.lu_msg.specs.declared.messages.Message.TheVariants as message
 use Rattle.lu_held.specs.declared.locks.HeldLock.{HeldLock}
-use Rattle.lu_words.specs.Carried.{Flight}
+use Rattle.lu_held.specs.declared.names.LockName.{LockName}
+use Rattle.lu_words.specs.Carried.{Flight, Work, Stage, Waits, Running}
 use Rattle.lu_words.specs.Words.{Entry, Send, Take, Tick, Serves, Settles, Line, line, with_turn, same_life}
 use Rattle.lu_words.specs.Concerns.{only}
 use Rattle.lu_words.specs.Fields.{on}
 use Rattle.lu_words.specs.Sent.{Sent}
 use Rattle.lu_client_rows.specs.Caches.{held_at}
-use Rattle.lu_client_rows.specs.Calls.{calls_at}
+use Rattle.lu_client_rows.specs.Calls.{call_on, calls_at}
 use Rattle.lu_client_rows.specs.Imports.{Import, Replay, import_at, import_of}
-use Rattle.lu_client_rows.specs.Messages.{ready_heard, is_present, comes_by}
-use Rattle.lu_client_rows.specs.Recovery.{replayed, replays, held_of, lock_replayed, lock_replays, tells_all, on_calls, where_stage, joins, joins_all, resumes, ticks, ticks_at}
-use Rattle.lu_client_rows.specs.Rows.{rests, row_tick}
+use Rattle.lu_client_rows.specs.Messages.{ready_heard, is_present, comes_by, waits_for, is_waiter}
+use Rattle.lu_client_rows.specs.Recovery.{replayed, replays, held_of, lock_replayed, lock_replays, tells_all, on_call, on_calls, where_stage, looks_stage, joins, joins_all, resumes, ticks, ticks_at}
 use Rattle.lu_client_rows.specs.Sending.{request_of, sends_request, resends}
 use Rattle.lu_client_rows.specs.States.{Client as ClientState}
-use Rattle.lu_covered.specs.Calls.{life_at}
-use Rattle.lu_covered.specs.ClientStates.{life_of, kept_of}
-use Rattle.lu_covered.specs.Covered.{AllCovered}
+use Rattle.lu_covered.specs.Calls.{call_at, life_at}
+use Rattle.lu_covered.specs.ClientStates.{life_of, kept_of, awaits_of}
 use Rattle.lu_covered.specs.Imports.{Kept, Standing, Joining, Recovering, Serving, known_at, standing_at, flights_at, kept_at}
 use Rattle.lu_table.specs.Heads as table
-use Rattle.lu_table.specs.Runs.{limits_of, client_of}
+use Rattle.lu_table.specs.Runs.{client_of}
 use Rattle.lu_guards.proofs.Guards.{In, Was, Later, Took, Ending}
 use Rattle.lu_guards.proofs.Grown.{Grown}
 use Rattle.lu_guards.proofs.StoryGuards as story_guards
@@ -42,11 +44,19 @@ use Rattle.lu_guards.proofs.Held.{held_there}
 use Rattle.lu_guards.proofs.Ends.{none_took}
 use Rattle.lu_guards.proofs.Turns.{owes_nothing}
 use Rattle.lu_guards.proofs.ClientLocks.{of_ordered, count_ordered}
-use Rattle.lu_guards.proofs.ClientLines.{ends}
 use Rattle.lu_guards.proofs.ClientTold.{ending_now, Whole, whole_at}
-use Rattle.lu_guards.proofs.ClientRests.{Good, AllIdle, Rested, Ended, the_head, adds, at_one, request_is, followed, import_there}
-use Rattle.lu_guards.proofs.ClientCalls.{calls_wait}
-use Rattle.lu_guards.proofs.ClientStarts.{Starts, starts_good, After, after_ends, took_rested, nowhere, no_looks}
+use Rattle.lu_guards.proofs.ClientGood.{Good, Rested, Calmed, calls_same, the_head, adds, at_one, request_is}
+use Rattle.lu_guards.proofs.ClientRests.{import_there}
+use Rattle.lu_guards.proofs.ClientCalls.{on_small}
+use Rattle.lu_guards.proofs.Awaits.{lock_named, waiting_for, Awaits, awaits_quiet}
+use Rattle.lu_guards.proofs.TurnStarts.{Starts, starts_good, took_rested}
+use Rattle.lu_guards.proofs.StageMoves.{all_calls, rested_calm, looks_all}
+
+-- one of these calls waits for that lock
+waiting_in : (name : LockName) (calls : List (Option Running)) (slot : ℕ) → is_waiter name (call_on slot calls) ≡ true → 0 < waiting_for name calls
+waiting_in name [] slot e = absurd (cc)
+waiting_in name (x ∷ calls) zero e = rw e (omega arith)
+waiting_in name (x ∷ calls) (suc slot) e = let more = waiting_in name calls slot e in omega (arith, more)
 
 module _ (head : table.Head) (c : ℕ) (stamp : Stamp) where
   abbrev at : At
@@ -64,11 +74,27 @@ module _ (head : table.Head) (c : ℕ) (stamp : Stamp) where
     pub kept : (t : ℕ) → kept_at c t p ≡ kept_at c t before
     pub held : held_at c p ≡ held_at c before
     pub took : (from : Node) (m : Message) → Took p at from m → Took before at from m
+    pub calls : (slot : ℕ) → call_at c slot p ≡ call_at c slot before
+    pub awaits : (t k : ℕ) → awaits_of who k (only t p) ≡ awaits_of who k (only t before)
 
   -- one line more, that says nothing of these
   sent_still : (who : Who) (before p : List Line) (t : ℕ) (m : Message) → Still who before p → Good head c at (line at (Send (Target t) m) ∷ p) → Still who before (line at (Send (Target t) m) ∷ p)
   sent_still who before p t m s g =
-      record { rested = record { good = g; settled = tt; idle = s.rested.idle; handles = s.rested.handles }; life = s.life; known = s.known; standing = s.standing; flights = s.flights; kept = s.kept; held = s.held; took = s.took }
+      record {
+        rested = record { good = g; settled = tt; idle = s.rested.idle; handles = s.rested.handles };
+        life = s.life;
+        known = s.known;
+        standing = s.standing;
+        flights = s.flights;
+        kept = s.kept;
+        held = s.held;
+        took = s.took;
+        calls = s.calls;
+        awaits = λ u k. awaits_quiet who k u at (Send (Target t) m) p tt ∙ s.awaits u k;
+      }
+
+  pub still_start : (who : Who) (p : List Line) → Rested head c at p → life_at c p ≡ who → Still who p p
+  still_start who p r life = record { rested = r; life = life; known = λ t. refl; standing = λ t. refl; flights = λ t. refl; kept = λ t. refl; held = refl; took = λ from m k. k; calls = λ slot. refl; awaits = λ t k. refl }
 
   pub again_good : (who : Who) (before p : List Line) (t boot : ℕ) (flights : List Flight) → Still who before p → boot ≡ known_at c t before → standing_at c t before ≡ Serving
       → ((f : Flight) → In f flights → In f (flights_at c t before))
@@ -188,9 +214,61 @@ module _ (head : table.Head) (c : ℕ) (stamp : Stamp) where
           subst (Still who before) (sym (turn_more at (rs ++ ls) last p ∙ ap (with_turn at last) (turn_more at rs ls p)))
           (word_good (with_turn at ls (with_turn at rs p)) (locks_good held (with_turn at rs p) all (replays_good (kept_at c t before).replays p (λ r i. i) s)))
 
+  -- ---- where the locks are that calls wait for
+
+  -- these slots, from this one on, have these calls
+  abbrev Calls : List Line → ℕ → List (Option Running) → Type 0
+  Calls before n calls = (s : ℕ) → s < length calls → call_at c (n + s) before ≡ call_on s calls
+
+  -- it waits for a lock there
+  where_one : (before : List Line) (t n : ℕ) (r : Running) (w : Work) (target : TargetId) (l : Lock) (marked : Bool) (p : List Line) → Awaits c before → standing_at c t before ≡ Serving → Still (life_at c before) before p
+      → n < 4 → call_at c n before ≡ Some r → r.stage ≡ Waits w target l marked → target.0 ≡ t
+      → Still (life_at c before) before (line at (Send (Target t) (message.Where (life_at c before) (known_at c t before) l.cookie)) ∷ p)
+  where_one before t n r w target l marked p a v s small call stage there =
+      let e = Send (Target t) (message.Where (life_at c before) (known_at c t before) l.cookie) in
+      sent_still (life_at c before) before p t (message.Where (life_at c before) (known_at c t before) l.cookie) s (adds head c stamp p e s.rested.good (owes_nothing p at e s.rested.settled)
+      (record { slot = n; running = r; call = s.calls n ∙ call; work = w; target = target; lock = l; marked = marked; waits = stage; of_target = there; of_cookie = refl })
+      (at_one head c stamp t (λ (u : ℕ). story_guards.WhereOk (only u p) c (life_at c before) (known_at c t before) l.cookie) (record {
+        serves = sym (standing_is c t p) ∙ s.standing t ∙ v;
+        of_life = sym s.life ∙ life_is_of c t p;
+        of_boot = sym (s.known t) ∙ known_is c t p;
+        awaits = subst (λ (k : ℕ). 0 < k) (sym (s.awaits t l.cookie.0 ∙ a.counts t l.cookie.0)) waits;
+      })) tt refl)
+    where
+      name : LockName
+      name = lock_named t l.cookie.0
+
+      waits : 0 < waiting_for name (calls_at c before)
+      waits =
+          waiting_in name (calls_at c before) n (ap (is_waiter name) (on_small c n before small ∙ call) ∙ ap (waits_for name) stage ∙ ap (λ (b : Bool). b && nat_eq l.cookie.0 l.cookie.0) (eq-eqb target.0 t there) ∙ self l.cookie.0)
+
+  where_from : (before : List Line) (t : ℕ) (calls : List (Option Running)) (n : ℕ) (p : List Line) → Awaits c before → standing_at c t before ≡ Serving → Still (life_at c before) before p → n + length calls ≤ 4 → Calls before n calls
+      → Still (life_at c before) before (with_turn at (on_calls (where_stage (life_at c before) (known_at c t before) t) n calls) p)
+  where_from before t [] n p a v s small h = s
+  where_from before t (x ∷ calls) n p a v s small h =
+      subst (Still (life_at c before) before) (sym (turn_more at (on_call (where_stage (life_at c before) (known_at c t before) t) n x) (on_calls (where_stage (life_at c before) (known_at c t before) t) (n + 1) calls) p))
+      (where_from before t calls (n + 1) (with_turn at (on_call (where_stage (life_at c before) (known_at c t before) t) n x) p) a v (by x here) (omega (arith, small)) next)
+    where
+      here : call_at c n before ≡ x
+      here = ap (λ (u : ℕ). call_at c u before) (let e : n ≡ n + 0 = omega arith in e) ∙ h 0 (omega arith)
+
+      next : Calls before (n + 1) calls
+      next u lt = ap (λ (m : ℕ). call_at c m before) (let e : n + 1 + u ≡ n + suc u = omega arith in e) ∙ h (suc u) (omega (arith, lt))
+
+      by : (x : Option Running) → call_at c n before ≡ x → Still (life_at c before) before (with_turn at (on_call (where_stage (life_at c before) (known_at c t before) t) n x) p)
+      by None e = s
+      by (Some r) e = of r.stage refl
+        where
+          of : (st : Stage) → r.stage ≡ st → Still (life_at c before) before (with_turn at (where_stage (life_at c before) (known_at c t before) t n r st) p)
+          of (Waits w target l marked) q =
+              cond_both (nat_eq target.0 t) (Send (Target t) (message.Where (life_at c before) (known_at c t before) l.cookie) ∷ []) [] (λ (es : List Entry). Still (life_at c before) before (with_turn at es p))
+              (λ there. where_one before t n r w target l marked p a v s (omega (arith, small)) e q (eqb-true target.0 t there))
+              (λ there. s)
+          of st q = s
+
   -- ---- time goes on
 
-  module _ (before : List Line) (g : Grown (the_head head c stamp) before) (later : Later before at) (idle : AllIdle c before) where
+  module _ (before : List Line) (g : Grown (the_head head c stamp) before) (later : Later before at) (awaits : Awaits c before) where
     tick_at : (t : ℕ) (st : Standing) (p : List Line) → standing_at c t before ≡ st → Still (life_at c before) before p → Still (life_at c before) before (with_turn at (ticks_at t (client_of head c before) (import_at c t before) st) p)
     tick_at t Joining p v s = join_good (life_at c before) before p t (known_at c t before) s v refl
     tick_at t Recovering p v s =
@@ -198,11 +276,10 @@ module _ (head : table.Head) (c : ℕ) (stamp : Stamp) where
         (λ u b w k. none_took (the_head head c stamp) before at (Target u) (message.Evicted w b) g later k) p s
     tick_at t Serving p v s =
         let who = life_at c before in
-        let boot = known_at c t before in
-        let flights = flights_at c t before in
-        let so : resends who boot t flights ++ on_calls (where_stage who boot t) 0 (calls_at c before) ≡ resends who boot t flights =
-        ap (λ (es : List Entry). resends who boot t flights ++ es) (nowhere who boot t 0 (calls_at c before) (calls_wait c before idle)) ∙ ends (resends who boot t flights) in
-        subst (λ (es : List Entry). Still who before (with_turn at es p)) (sym so) (again_good who before p t boot flights s refl v (λ f i. i))
+        let es = resends who (known_at c t before) t (flights_at c t before) in
+        let fs = on_calls (where_stage who (known_at c t before) t) 0 (calls_at c before) in
+        subst (Still who before) (sym (turn_more at es fs p))
+        (where_from before t (calls_at c before) 0 (with_turn at es p) awaits v (again_good who before p t (known_at c t before) (flights_at c t before) s refl v (λ f i. i)) (omega arith) (all_calls head c stamp before))
 
     ticks_good : (n t : ℕ) (p : List Line) → Still (life_at c before) before p → Still (life_at c before) before (with_turn at (ticks t (map (λ v. import_at c v before) (range_with_len t n)) (client_of head c before)) p)
     ticks_good zero t p s = s
@@ -212,26 +289,34 @@ module _ (head : table.Head) (c : ℕ) (stamp : Stamp) where
         let more = ticks (t + 1) (map (λ v. import_at c v before) (range_with_len (t + 1) n)) k in
         subst (Still (life_at c before) before) (sym (turn_more at es more p)) (ticks_good n (t + 1) (with_turn at es p) (tick_at t (standing_at c t before) p refl s))
 
-  pub tick_ends : (p : List Line) → Starts head c stamp p → AllCovered (with_turn at (row_tick (limits_of head) at (client_of head c p)) p) → Ended head c at (with_turn at (row_tick (limits_of head) at (client_of head c p)) p)
-  tick_ends p s covered =
-      let k = client_of head c p in
-      let es = ticks 0 k.imports k in
-      let all = followed head c stamp (Tick ∷ es) (rests (limits_of head) at) p in
+  pub tick_rested : (p : List Line) → Starts head c stamp p → Rested head c at (with_turn at (Tick ∷ ticks 0 (client_of head c p).imports (client_of head c p)) p)
+  tick_rested p s =
       let first : Rested head c at (line at Tick ∷ p) = record {
         good = adds head c stamp p Tick (starts_good head c stamp p s) (owes_nothing p at Tick s.settled) s.later (λ t e. tt) tt refl;
         settled = tt;
         idle = s.between.idle;
         handles = s.between.handles;
       } in
-      let still : Still (life_at c p) p (line at Tick ∷ p) = record { rested = first; life = refl; known = λ t. refl; standing = λ t. refl; flights = λ t. refl; kept = λ t. refl; held = refl; took = λ from m k. k } in
-      let last = ticks_good p s.grown s.later s.between.idle (head.osts + 1) 0 (line at Tick ∷ p) still in
-      subst (Ended head c at) (sym all) (after_ends head c stamp (with_turn at (Tick ∷ es) p) (inl last.rested) (subst AllCovered all covered))
+      let still : Still (life_at c p) p (line at Tick ∷ p) = record {
+        rested = first;
+        life = refl;
+        known = λ t. refl;
+        standing = λ t. refl;
+        flights = λ t. refl;
+        kept = λ t. refl;
+        held = refl;
+        took = λ from m k. k;
+        calls = λ slot. refl;
+        awaits = λ t k. awaits_quiet (life_at c p) k t at Tick p tt;
+      } in
+      (ticks_good p s.grown s.later s.awaits (head.osts + 1) 0 (line at Tick ∷ p) still).rested
 
   -- ---- a target serves the life
 
-  pub ready_after : (p : List Line) (n t : ℕ) (who : Who) (boot : ℕ) (committed : TxnOf) → Starts head c stamp p → t ≤ head.osts → Sent p n (Target t) (Client c) (message.Ready who boot committed)
-      → After head c stamp (with_turn at (comes_by at (Target t) (message.Ready who boot committed) (client_of head c p)) (line at (Take n (Target t) (message.Ready who boot committed)) ∷ p))
-  ready_after p n t who boot committed s le sent = by (is_present who boot t k) refl
+  -- what is in flight is sent again, and asks that were forgotten are made again
+  pub ready_calm : (p : List Line) (n t : ℕ) (who : Who) (boot : ℕ) (committed : TxnOf) → Starts head c stamp p → t ≤ head.osts → Sent p n (Target t) (Client c) (message.Ready who boot committed)
+      → Calmed head c at (with_turn at (comes_by at (Target t) (message.Ready who boot committed) (client_of head c p)) (line at (Take n (Target t) (message.Ready who boot committed)) ∷ p))
+  ready_calm p n t who boot committed s le sent = by (is_present who boot t k) refl
     where
       k : ClientState
       k = client_of head c p
@@ -257,11 +342,25 @@ module _ (head : table.Head) (c : ℕ) (stamp : Stamp) where
       now : standing_at c t p3 ≡ Serving
       now = ap (λ (b : Bool). on true (b && nat_eq t t) Serving (standing_at c t p)) (self c) ∙ ap (λ (b : Bool). if b then Serving else standing_at c t p) (self t)
 
-      resumed : Still (life_at c p) p3 p3 → Rested head c at (with_turn at (resends (life_at c p) (known_at c t p) t (flights_at c t p)) p3)
-      resumed still = (again_good (life_at c p) p3 p3 t (known_at c t p) (flights_at c t p) still refl now (λ f i. i)).rested
+      again : List Entry
+      again = resends (life_at c p) (known_at c t p) t (flights_at c t p)
 
-      by : (b : Bool) → is_present who boot t k ≡ b → After head c stamp (with_turn at (ready_heard t boot committed.0 k b) p1)
-      by false e = inl took
+      p4 : List Line
+      p4 = with_turn at again p3
+
+      -- what it took in this turn
+      still_took : (fs : List Flight) (q : List Line) → Took q at (Target t) m → Took (with_turn at (resends (life_at c p) (known_at c t p) t fs) q) at (Target t) m
+      still_took [] q k = k
+      still_took (f ∷ fs) q k = still_took fs (line at (sends_request (life_at c p) (known_at c t p) t f) ∷ q) k
+
+      resumed : Still (life_at c p) p3 p3 → Calmed head c at (with_turn at (again ++ on_calls (looks_stage t) 0 (calls_at c p)) p3)
+      resumed still =
+          let sent = again_good (life_at c p) p3 p3 t (known_at c t p) (flights_at c t p) still refl now (λ f i. i) in
+          subst (Calmed head c at) (sym (turn_more at again (on_calls (looks_stage t) 0 (calls_at c p)) p3))
+          (looks_all head c stamp t who boot committed.0 p4 sent.rested (still_took (flights_at c t p) p3 (inl (refl, refl, refl))) (calls_at c p) (sym (calls_same c p p4 sent.calls)))
+
+      by : (b : Bool) → is_present who boot t k ≡ b → Calmed head c at (with_turn at (ready_heard t boot committed.0 k b) p1)
+      by false e = rested_calm head c stamp p1 took
       by true e =
           let parts = and_parts (same_life who k.who) (nat_eq boot (import_of t k.imports).boot) e in
           let own : who ≡ life_of c (only t p1) = life_is who k.who parts.0 ∙ life_is_of c t p1 in
@@ -277,25 +376,13 @@ module _ (head : table.Head) (c : ℕ) (stamp : Stamp) where
           })) tt refl in
           let settled : Good head c at p3 =
           adds head c stamp p2 (Settles t committed.0) served (owes_nothing p2 at (Settles t committed.0) tt) tt
-          (at_one head c stamp t (λ (u : ℕ). story_guards.SettlesOk (only u p2) c t committed.0) (record {
+          (at_one head c stamp t (λ (u : ℕ). story_guards.SettlesOk (only u p2) c t committed.0) (inl (record {
             serves = sym (standing_is c t p2) ∙ now;
             boot = boot;
             was =
                 was_only t p2 (Target t) (Client c) (message.Ready (life_of c (only t p2)) boot committed) (self t)
                 (subst (λ (w : Who). Was p2 (Target t) (Client c) (message.Ready w boot committed)) still_own (sent_was p n (Target t) (Client c) m sent));
-          })) tt refl in
-          let still : Still (life_at c p) p3 p3 = record {
-            rested = record { good = settled; settled = tt; idle = took.idle; handles = took.handles };
-            life = refl;
-            known = λ u. refl;
-            standing = λ u. refl;
-            flights = λ u. refl;
-            kept = λ u. refl;
-            held = refl;
-            took = λ from m k. k;
-          } in
-          let so : resumes t k (import_of t k.imports) ≡ resends (life_at c p) (known_at c t p) t (flights_at c t p) =
-          ap (λ (i : Import). resumes t k i) there
-          ∙ ap (λ (es : List Entry). resends (life_at c p) (known_at c t p) t (flights_at c t p) ++ es) (no_looks t 0 (calls_at c p) (calls_wait c p s.between.idle))
-          ∙ ends (resends (life_at c p) (known_at c t p) t (flights_at c t p)) in
-          inl (subst (λ (es : List Entry). Rested head c at (with_turn at es p3)) (sym so) (resumed still))
+          }))) tt refl in
+          let still : Still (life_at c p) p3 p3 = still_start (life_at c p) p3 (record { good = settled; settled = tt; idle = took.idle; handles = took.handles }) refl in
+          let so : resumes t k (import_of t k.imports) ≡ again ++ on_calls (looks_stage t) 0 (calls_at c p) = ap (λ (i : Import). resumes t k i) there in
+          subst (λ (es : List Entry). Calmed head c at (with_turn at es p3)) (sym so) (resumed still)

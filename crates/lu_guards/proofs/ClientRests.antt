@@ -1,180 +1,61 @@
--- What comes at the end of a client's turn: unused locks are marked, marked ones are given up where their target serves the life, and to
--- each target that serves it what waits there is sent. Each line is allowed, and then each call waits, for its reply or for other calls on
--- its open; no held lock that isn't pinned is marked where its target serves, and handles are bound as calls say.
+-- What comes at the end of a client's turn: unused locks are marked, changes are written back under marked locks, or where too much is dirty,
+-- marked locks are given up where their target serves the life, and to each target that serves it what waits there is sent. Each line is
+-- allowed, and then each call waits; no held lock that isn't pinned is marked where its target serves, but one to write under, and handles are
+-- bound as calls say.
 use Rattle.std.proofs.Common.{◌≡◌, ℕ, zero, suc, ◌+◌, ◌<◌, ◌≤◌, Bool, true, false, List, [], ◌∷◌, ◌++◌, ◌⊎◌, inl, inr, ⊎_elim, Option, Some, None, refl, sym, subst, ap, ◌∙◌, arith, add-one}
-use Rattle.std.specs.Prelude.{nat_eq, nat_lt, not, ◌&&◌, ◌||◌, length, if◌then◌else◌, map, filter, reverse, drop}
+use Rattle.std.specs.Prelude.{nat_eq, nat_lt, not, ◌&&◌, length, if◌then◌else◌, map, filter, reverse, drop}
 use Rattle.std.specs.List.{range_with_len}
-use Rattle.std.proofs.lemmas.Bool.{and_parts, cond-false, eqb-true, ltb-true, not-true}
+use Rattle.std.proofs.lemmas.Bool.{and_parts, eqb-true, ltb-true, not-true}
 use Rattle.std.proofs.lemmas.Bool.Decides.{nat_tests}
 use Rattle.std.proofs.lemmas.Grind.{reverse_onto}
 use Rattle.lu_base.specs.declared.ids.At.{At}
 use Rattle.lu_base.specs.declared.ids.Node.TheVariants.{Client, Target}
 use Rattle.lu_base.specs.declared.ids.Stamp.{Stamp}
 use Rattle.lu_base.specs.declared.ids.Who.{Who}
+use Rattle.lu_base.specs.declared.ids.Cookie.{Cookie}
 use Rattle.lu_base.specs.declared.locks.Mode.{Mode}
 use Rattle.lu_base.specs.declared.locks.Mode.TheVariants.{PW}
 use Rattle.lu_base.specs.declared.locks.Policy.{Policy}
 use Rattle.lu_base.specs.declared.locks.Policy.TheVariants.{Range}
+use Rattle.lu_base.specs.declared.locks.Resource.{Resource}
 use Rattle.lu_msg.specs.declared.messages.Message.TheVariants as message
-use Rattle.lu_msg.specs.declared.operations.Op.{Op}
 use Rattle.lu_held.specs.declared.locks.Change.TheVariants as change
 use Rattle.lu_held.specs.declared.locks.HeldLock.{HeldLock}
-use Rattle.lu_held.specs.declared.locks.Use.{Use}
 use Rattle.lu_held.specs.declared.names.LockName.{LockName}
-use Rattle.lu_held.specs.Locks.{name_of, is_named, is_free, reaches_end, after}
+use Rattle.lu_held.specs.Locks.{name_of, is_named, is_free, after}
 use Rattle.lu_held.specs.Held.{is_held, without, in_order}
-use Rattle.lu_msg.specs.declared.calls.Call.TheVariants as call
-use Rattle.lu_words.specs.declared.uses.Using.{Using}
-use Rattle.lu_words.specs.Carried.{HandleFile, Narrow, Wide, Stats, Glimpses, Work, Queued, Flight, Unasked, Asked, Plain, Bad, Enqueued, Sizes, Running}
-use Rattle.lu_words.specs.Words.{Entry, Send, Tick, Drop, Flies, Marks, Line, line, with_turn}
-use Rattle.lu_words.specs.Concerns.{is_about, only}
-use Rattle.lu_words.specs.Fields.{on}
-use Rattle.lu_client_rows.specs.Caches.{reads_held, held_after, held_at, patch_at}
-use Rattle.lu_client_rows.specs.Calls.{reads_death, death_after, is_dead}
+use Rattle.lu_words.specs.declared.changes.Flush.{Flush}
+use Rattle.lu_words.specs.declared.changes.Flush.TheVariants.{Cut, Put}
+use Rattle.lu_words.specs.Carried.{Queued, Flight}
+use Rattle.lu_words.specs.Words.{Entry, Send, Drop, Queues, Flies, Marks, WritesBack, Line, line, with_turn}
+use Rattle.lu_words.specs.Concerns.{only}
+use Rattle.lu_client_rows.specs.Caches.{held_at, patch_at, patches_at}
 use Rattle.lu_client_rows.specs.Imports.{Import, import_at, import_of, is_serving}
-use Rattle.lu_client_rows.specs.Locks.{marks_of, trims, is_called, must_write, gives_up, visits, visits_with, visits_all, locks_go, dirty_total}
-use Rattle.lu_client_rows.specs.Patches.{clean}
+use Rattle.lu_client_rows.specs.Locks.{marks_of, trims, is_called, must_write, writes_next, writes_under, gives_up, visits, visits_all, locks_go, dirty_total}
+use Rattle.lu_client_rows.specs.Patches.{Patch, in_flight}
 use Rattle.lu_client_rows.specs.Sending.{front_waits, has_room, next_flight, request_of, sends_request, flies, sends, sends_to, sends_all}
-use Rattle.lu_client_rows.specs.Starts.{count_on}
-use Rattle.lu_client_rows.specs.States.{Client as ClientState, follow, turn as turn_of}
-use Rattle.lu_client_rows.specs.Wants.{wants_of}
-use Rattle.lu_covered.specs.Calls.{reads_call, call_after, call_at, calls_at, life_at, becomes}
+use Rattle.lu_client_rows.specs.States.{follow}
+use Rattle.lu_client_rows.specs.WriteBack.{operation, writes_back, flush_under}
+use Rattle.lu_covered.specs.Calls.{life_at}
 use Rattle.lu_covered.specs.ClientStates.{flights_of, last_of, life_of}
-use Rattle.lu_covered.specs.Covered.{IsCovered, AllCovered}
-use Rattle.lu_covered.specs.Heads.{Head, IsAlive}
+use Rattle.lu_covered.specs.Heads.{Head}
 use Rattle.lu_covered.specs.Imports.{Standing, Joining, Recovering, Serving, rest, queue_at, flights_at, last_at, known_at, standing_at}
 use Rattle.lu_table.specs.Heads as table
 use Rattle.lu_table.specs.Runs.{limits_of, client_of}
-use Rattle.lu_after.proofs.Clients.{client_own}
-use Rattle.lu_guards.proofs.Guards.{In, Steps, Closes, Dropped, InOrder, Reads, Owes, EntryOk}
-use Rattle.lu_guards.proofs.StoryGuards.{EntryOf, DropOk, CancelOk}
-use Rattle.lu_guards.proofs.Grown.{Noted, Grown}
-use Rattle.lu_guards.proofs.Guards as guards
+use Rattle.lu_guards.proofs.Guards.{HasRange, In, Dropped, EntryOk}
+use Rattle.lu_guards.proofs.StoryGuards.{DropOk, AsksInOrder, CancelOk}
+use Rattle.lu_guards.proofs.Acts.{bits_range}
+use Rattle.lu_guards.proofs.Grown.{Grown}
 use Rattle.lu_guards.proofs.StoryGuards as story_guards
 use Rattle.lu_guards.proofs.Lists.{self, in_append, in_right, in_filter, turn, turn_more}
 use Rattle.lu_guards.proofs.Parts.{queue_now, flights_now, last_now, known_is, standing_is, life_is_of}
-use Rattle.lu_guards.proofs.Turns.{covered_head, Settled, owes_nothing, backs_none, marks_none, shows_none, noted_client}
-use Rattle.lu_guards.proofs.Covers.{covered_turn}
-use Rattle.lu_guards.proofs.Held.{held_into, held_back, held_name}
+use Rattle.lu_guards.proofs.Turns.{covered_head, owes_nothing}
+use Rattle.lu_guards.proofs.LockKinds.{held_kind}
+use Rattle.lu_guards.proofs.Held.{held_in, held_into, held_back, held_name}
 use Rattle.lu_guards.proofs.ClientLocks.{Once, in_drop, own_name, changed_only, without_only, without_other, without_gone, in_ordered, ordered_in, once_ordered}
-use Rattle.lu_guards.proofs.ClientHandles.{Tied}
-use Rattle.lu_guards.proofs.ClientLines.{patches_none, held_once, once_same, AllThere, held_limited}
-use Rattle.lu_guards.proofs.ClientSizes.{OnRanges, IsUnheard}
-
--- ---- a client that lives, in its turn, after lines that are allowed
-
-pub record Good (head : table.Head) (c : ℕ) (at : At) (past : List Line) : Type 0 where
-  pub grown : Grown (covered_head head) past
-  pub covered : AllCovered past
-  pub steps : Steps past at
-  pub closes : Closes past at
-  pub noted : Noted (covered_head head) past
-  pub there : AllThere head.osts past
-  pub alive : IsAlive (covered_head head) past c
-
--- a glimpse that asks how long the first of the objects that are left is, and has the sizes of those before it
-pub record Sizing (r : Running) : Type 0 where
-  pub handle : ℕ
-  pub glimpses : r.call ≡ call.Glimpse handle
-  pub work : Work
-  pub stage : r.stage ≡ Sizes work
-  pub sizes : List ℕ
-  pub kind : work.kind ≡ Glimpses sizes
-  pub wanted : Use
-  pub left : List Use
-  pub first : work.left ≡ wanted ∷ left
-  pub ranges : OnRanges (wanted ∷ left)
-  pub file : HandleFile
-  pub of_file : r.file ≡ Some file
-  pub before : List Use
-  pub all : wants_of file.layout file.fid (Glimpses []) ≡ before ++ wanted ∷ left
-  pub each : length before ≡ length sizes
-
--- the work of a read, narrow or to the end
-pub record ReadsOn (r : Running) (work : Work) : Type 0 where
-  pub read : Reads r
-  pub kind : (work.kind ≡ Narrow read.offset read.count) ⊎ (work.kind ≡ Wide read.offset read.count)
-  pub fid : work.fid ≡ read.file.fid
-  pub layout : work.layout ≡ read.file.layout
-
--- the work of a stat of a file
-pub record StatsOn (r : Running) (work : Work) : Type 0 where
-  pub path : List (List ℕ)
-  pub stats : r.call ≡ call.Stat path
-  pub good : r.stage ≡ Bad → ⊥
-  pub mode : ℕ
-  pub links : ℕ
-  pub kind : work.kind ≡ Stats mode links
-
--- how far a read, or a stat, has come: it has locks in use, which reach the end of their objects, and others that it still wants
-pub record Reading (r : Running) (work : Work) : Type 0 where
-  pub does : ReadsOn r work ⊎ StatsOn r work
-  pub wanted : Use
-  pub left : List Use
-  pub first : work.left ≡ wanted ∷ left
-  pub order : InOrder (wants_of work.layout work.fid work.kind) work
-  pub ends : (u : Using) → In u work.used → reaches_end u.lock.ask.policy ≡ true
-
--- a read, or a stat, that waits for the lock on the first of the objects that are left: it waits on where no lock comes
-pub record Locking (r : Running) : Type 0 where
-  pub work : Work
-  pub stage : r.stage ≡ Enqueued work
-  pub reading : Reading r work
-
--- a call that waits for its reply and has pinned nothing: it is on names, or a glimpse, which waits on where what it was told is no size
-abbrev pub AwaitsReply : Running → Type 0
-AwaitsReply r = ((r.asking ≡ Asked) × (r.stage ≡ Plain) × ((o : Op) × (becomes r ≡ Some o))) ⊎ (Sizing r × ((r.asking ≡ Asked) ⊎ IsUnheard r.asking))
-
-abbrev pub HasAsked : Running → Type 0
-HasAsked r = ((r.pins ≡ []) × AwaitsReply r) ⊎ Locking r
-
--- a close that waits for other calls on its open
-pub record WaitsToClose (calls : List (Option Running)) (r : Running) : Type 0 where
-  pub handle : ℕ
-  pub closes : r.call ≡ call.Close handle
-  pub file : HandleFile
-  pub of_file : r.file ≡ Some file
-  pub plain : r.stage ≡ Plain
-  pub new : r.asking ≡ Unasked
-  pub pins : r.pins ≡ []
-  pub others : nat_lt 1 (count_on file.number.0 calls) ≡ true
-
--- among these calls, one that nothing moves but a message, or the end of another one
-abbrev pub Idle : List (Option Running) → Option Running → Type 0
-Idle calls None = Unit {0}
-Idle calls (Some r) = HasAsked r ⊎ WaitsToClose calls r
-
-abbrev pub AllIdle : ℕ → List Line → Type 0
-AllIdle c past = (slot : ℕ) → Idle (calls_at c past) (call_at c slot past)
-
--- where each slot has the call that it had, the same calls are idle
-calls_same : (c : ℕ) (p q : List Line) → ((slot : ℕ) → call_at c slot q ≡ call_at c slot p) → calls_at c q ≡ calls_at c p
-calls_same c p q same =
-    ap (λ (x : Option Running). x ∷ call_at c 1 q ∷ call_at c 2 q ∷ call_at c 3 q ∷ []) (same 0)
-    ∙ ap (λ (x : Option Running). call_at c 0 p ∷ x ∷ call_at c 2 q ∷ call_at c 3 q ∷ []) (same 1)
-    ∙ ap (λ (x : Option Running). call_at c 0 p ∷ call_at c 1 p ∷ x ∷ call_at c 3 q ∷ []) (same 2)
-    ∙ ap (λ (x : Option Running). call_at c 0 p ∷ call_at c 1 p ∷ call_at c 2 p ∷ x ∷ []) (same 3)
-
-pub idle_same : (c : ℕ) (p q : List Line) → ((slot : ℕ) → call_at c slot q ≡ call_at c slot p) → AllIdle c p → AllIdle c q
-idle_same c p q same idle slot = subst (λ (calls : List (Option Running)). Idle calls (call_at c slot q)) (sym (calls_same c p q same)) (subst (Idle (calls_at c p)) (sym (same slot)) (idle slot))
-
--- nothing is owed, all calls wait, and handles are bound as calls say
-pub record Rested (head : table.Head) (c : ℕ) (at : At) (past : List Line) : Type 0 where
-  pub good : Good head c at past
-  pub settled : Settled past
-  pub idle : AllIdle c past
-  pub handles : Tied c past
-
--- between its turns no held lock that isn't pinned is marked either, where its target serves the life
-pub record Between (c : ℕ) (past : List Line) : Type 0 where
-  pub idle : AllIdle c past
-  pub handles : Tied c past
-  pub calm : (x : HeldLock) → In x (held_at c past) → standing_at c x.target.0 past ≡ Serving → x.pins ≡ 0 → x.marked ≡ false
-
-pub record Ended (head : table.Head) (c : ℕ) (at : At) (past : List Line) : Type 0 where
-  pub good : Good head c at past
-  pub settled : Settled past
-  pub between : Between c past
+use Rattle.lu_guards.proofs.ClientLines.{held_once, once_same, held_limited}
+use Rattle.lu_guards.proofs.Patched.{lasts_taken}
+pub use Rattle.lu_guards.proofs.ClientGood.{Good, idle_same, Rested, Between, Ended, here, the_head, adds, at_one, at_zero, call_line, held_line, request_is, Keeps, followed, keeps_more}
 
 pub in_reverse : {A : Type 0} (x : A) (xs : List A) → In x (reverse xs) → In x xs
 in_reverse x [] i = i
@@ -182,83 +63,32 @@ in_reverse {A} x (y ∷ xs) i =
     ⊎_elim (λ (j : In x (reverse xs)). inr (in_reverse x xs j)) (λ (j : In x (y ∷ [])). ⊎_elim (λ (e : y ≡ x). inl e) (λ (n : ⊥). absurd n) j)
     (in_append x (reverse xs) (y ∷ []) (subst (λ (zs : List A). In x zs) (reverse_onto xs y []) i))
 
-not_over : (n : ℕ) → nat_lt n 0 ≡ false
-not_over n = grind (arith, nat_tests)
+-- what is written back goes under a lock to write, on a range
+must_writer : (over : Bool) (h : HeldLock) (m : Mode) (q : Policy) (p : Patch) → must_write over h m q p ≡ true → m ≡ PW
+must_writer over h PW (Range extent) p e = refl
+must_writer over h m q p e = absurd (cc)
+
+flush_writer : (p : Patch) (m : Mode) (q : Policy) (change : Flush) → flush_under p m q ≡ Some change → (m ≡ PW) × HasRange q
+flush_writer p PW (Range extent) change e = (refl, tt)
+flush_writer p m q change e = absurd (cc)
+
+-- and asks for no lock
+back_in_order : (resource : Resource) (cookie : Cookie) (change : Flush) → AsksInOrder (operation resource cookie change)
+back_in_order resource cookie (Put offset bytes) = tt
+back_in_order resource cookie (Cut size) = tt
 
 module _ (head : table.Head) (c : ℕ) (stamp : Stamp) where
-  abbrev pub here : At
-  here = turn stamp (Client c)
+  abbrev at : At
+  at = turn stamp (Client c)
 
-  abbrev pub the_head : Head
-  the_head = covered_head head
-
-  -- ---- one line more
-
-  pub adds : (p : List Line) (e : Entry) → Good head c here p → Owes p here e → EntryOk p here (Client c) e → ((t : ℕ) → is_about t e ≡ true → EntryOf the_head (only t p) here (Client c) e) → IsCovered e → reads_death e ≡ false
-      → Good head c here (line here e ∷ p)
-  adds p e g owes ok of covered lives =
-      record {
-        grown = (record { steps = g.steps; closes = g.closes; backs = backs_none the_head p here e g.noted; marks = marks_none the_head p here e g.noted; shows = shows_none the_head p here e g.noted; lives = g.alive; owes = owes; ok = ok; of = of }, g.grown);
-        covered = (covered, g.covered);
-        steps = inl refl;
-        closes = inl refl;
-        noted = noted_client the_head p stamp c e ok g.noted;
-        there = (tt, g.there);
-        alive = record { one = g.alive.one; alive = by (reads_death e) lives ∙ g.alive.alive };
-      }
-    where
-      by : (r : Bool) → r ≡ false → on r (nat_eq c c) (death_after (is_dead c p) e) (is_dead c p) ≡ is_dead c p
-      by true q = absurd (cc)
-      by false q = refl
-
-  -- what is about one target is said in its story
-  pub at_one : (u : ℕ) (P : ℕ → Type 0) → P u → (t : ℕ) → nat_eq t u ≡ true → P t
-  at_one u P q t e = subst P (sym (eqb-true t u e)) q
-
-  pub at_zero : (P : ℕ → Type 0) → P 0 → (t : ℕ) → nat_eq t 0 ≡ true → P t
-  at_zero P q t e = at_one 0 P q t e
-
-  pub call_line : (slot : ℕ) (p : List Line) (e : Entry) → call_at c slot (line here e ∷ p) ≡ call_after slot (call_at c slot p) e
-  call_line slot p e = ap (λ (own : Bool). on (reads_call e) own (call_after slot (call_at c slot p) e) (call_at c slot p)) (self c) ∙ by e
-    where
-      by : (e : Entry) → on (reads_call e) true (call_after slot (call_at c slot p) e) (call_at c slot p) ≡ call_after slot (call_at c slot p) e
-      by Tick = refl
-      by e = refl
-
-  pub held_line : (p : List Line) (e : Entry) → held_at c (line here e ∷ p) ≡ held_after (held_at c p) e
-  held_line p e = ap (λ (own : Bool). on (reads_held e) own (held_after (held_at c p) e) (held_at c p)) (self c) ∙ by e
-    where
-      by : (e : Entry) → on (reads_held e) true (held_after (held_at c p) e) (held_at c p) ≡ held_after (held_at c p) e
-      by Tick = refl
-      by e = refl
-
-  -- a request in flight, as its life and the boot that it knows name it
-  pub request_is : (t : ℕ) (p : List Line) (f : Flight) → request_of (life_at c p) (known_at c t p) f ≡ guards.request c (only t p) f
-  request_is t p f = ap (λ (w : Who). request_of w (known_at c t p) f) (life_is_of c t p) ∙ ap (λ (b : ℕ). request_of (life_of c (only t p)) b f) (known_is c t p)
-
-  -- ---- lines that a part of a row makes, which reads the client where the part begins
-
-  abbrev pub Keeps : (P Q : List Line → Type 0) → (ClientState → List Entry) → Type 0
-  Keeps P Q f = (p : List Line) → P p → AllCovered (with_turn here (f (client_of head c p)) p) → Q (with_turn here (f (client_of head c p)) p)
-
-  pub followed : (es : List Entry) (next : ClientState → List Entry) (p : List Line) → with_turn here (follow es next (client_of head c p)) p ≡ with_turn here (next (client_of head c (with_turn here es p))) (with_turn here es p)
-  followed es next p =
-      turn_more here es (next (turn_of (client_of head c p) es)) p
-      ∙ ap (λ (k : ClientState). with_turn here (next k) (with_turn here es p)) (sym (client_own (limits_of head) c p here es (self c)))
-
-  pub keeps_more : (P Q R : List Line → Type 0) (f g : ClientState → List Entry) → Keeps P Q f → Keeps Q R g → Keeps P R (λ k. follow (f k) g k)
-  keeps_more P Q R f g first second p start covered =
-      let es = f (client_of head c p) in
-      let p1 = with_turn here es p in
-      let so = followed es g p in
-      let rest = subst AllCovered so covered in
-      subst R (sym so) (second p1 (first p start (covered_turn here (g (client_of head c p1)) p1 rest).1) rest)
+  abbrev few : Head
+  few = covered_head head
 
   -- ---- what waits is sent to each target that serves the life
 
   -- only that is left of the turn; before: where it begins to send; from this target on none has been sent anything yet
   record Sending (before : List Line) (from : ℕ) (p : List Line) : Type 0 where
-    ended : Ended head c here p
+    ended : Ended head c at p
     life : life_at c p ≡ life_at c before
     known : (u : ℕ) → known_at c u p ≡ known_at c u before
     standing : (u : ℕ) → standing_at c u p ≡ standing_at c u before
@@ -281,7 +111,7 @@ module _ (head : table.Head) (c : ℕ) (stamp : Stamp) where
 
   sends_good : (before : List Line) (t : ℕ) (p : List Line) (last : ℕ) (flights : List Flight) (queue : List Queued) → Sending before (t + 1) p → standing_at c t before ≡ Serving
       → last_at c t p ≡ last → flights_at c t p ≡ flights → queue_at c t p ≡ queue
-      → Sending before (t + 1) (with_turn here (sends (limits_of head) (life_at c before) (known_at c t before) t last flights queue) p)
+      → Sending before (t + 1) (with_turn at (sends (limits_of head) (life_at c before) (known_at c t before) t last flights queue) p)
   sends_good before t p last flights [] s v l f q = s
   sends_good before t p last flights (x ∷ queue) s v l f q = by (has_room (limits_of head) t x.op flights) refl (λ next. sends_good before t p2 (last + 1) (flights ++ fl ∷ []) queue next v ls fs qs)
     where
@@ -295,10 +125,10 @@ module _ (head : table.Head) (c : ℕ) (stamp : Stamp) where
       fl = next_flight last flights x
 
       p1 : List Line
-      p1 = line here (Flies t fl) ∷ p
+      p1 = line at (Flies t fl) ∷ p
 
       p2 : List Line
-      p2 = line here (sends_request who boot t fl) ∷ p1
+      p2 = line at (sends_request who boot t fl) ∷ p1
 
       more : List Entry
       more = sends (limits_of head) who boot t (last + 1) (flights ++ fl ∷ []) queue
@@ -321,41 +151,41 @@ module _ (head : table.Head) (c : ℕ) (stamp : Stamp) where
       qs : queue_at c t p1 ≡ queue
       qs = ap (λ (b : Bool). if b then rest (queue_at c t p) else queue_at c t p) own ∙ ap rest q
 
-      g : Good head c here p
+      g : Good head c at p
       g = s.ended.good
 
       last_now_is : last ≡ last_of (life_of c (only t p)) (only t p)
-      last_now_is = sym l ∙ last_now the_head c t p g.grown
+      last_now_is = sym l ∙ last_now few c t p g.grown
 
       flights_now_are : flights ≡ flights_of (life_of c (only t p)) (only t p)
-      flights_now_are = sym f ∙ flights_now the_head c t p g.grown
+      flights_now_are = sym f ∙ flights_now few c t p g.grown
 
-      flown : nat_lt (length flights) head.flight ≡ true → not (front_waits t x.op flights) ≡ true → Good head c here p1
+      flown : nat_lt (length flights) head.flight ≡ true → not (front_waits t x.op flights) ≡ true → Good head c at p1
       flown room object =
-          adds p (Flies t fl) g (owes_nothing p here (Flies t fl) s.ended.settled) tt
-          (at_one t (λ (u : ℕ). story_guards.FliesOk the_head (only u p) c t fl) (record {
+          adds head c stamp p (Flies t fl) g (owes_nothing p at (Flies t fl) s.ended.settled) tt
+          (at_one head c stamp t (λ (u : ℕ). story_guards.FliesOk few (only u p) c t fl) (record {
             serves = sym (standing_is c t p) ∙ s.standing t ∙ v;
             front = x;
             more = queue;
-            queue = sym (queue_now the_head c t p g.grown) ∙ q;
+            queue = sym (queue_now few c t p g.grown) ∙ q;
             is = ap (λ (n : ℕ). next_flight n flights x) last_now_is ∙ ap (λ (y : List Flight). next_flight (last_of (life_of c (only t p)) (only t p)) y x) flights_now_are;
             room = subst (λ (y : List Flight). length y < head.flight) flights_now_are (ltb-true (length flights) head.flight room);
             object = ap (front_waits t x.op) (sym flights_now_are) ∙ not-true (front_waits t x.op flights) object;
           }))
           tt refl
 
-      sent : Good head c here p1 → Good head c here p2
+      sent : Good head c at p1 → Good head c at p2
       sent g =
-          adds p1 (sends_request who boot t fl) g (owes_nothing p1 here (sends_request who boot t fl) tt) tt
-          (at_one t (λ (u : ℕ). story_guards.AskOk (only u p1) c (request_of who boot fl)) (record {
+          adds head c stamp p1 (sends_request who boot t fl) g (owes_nothing p1 at (sends_request who boot t fl) tt) tt
+          (at_one head c stamp t (λ (u : ℕ). story_guards.AskOk (only u p1) c (request_of who boot fl)) (record {
             serves = sym (standing_is c t p1) ∙ s.standing t ∙ v;
             flight = fl;
-            flying = subst (λ (y : List Flight). In fl y) (sym fs ∙ flights_now the_head c t p1 g.grown) (in_right fl flights (fl ∷ []) (inl refl));
-            is = ap (λ (w : Who). request_of w boot fl) (sym s.life) ∙ ap (λ (n : ℕ). request_of (life_at c p) n fl) (sym (s.known t)) ∙ request_is t p1 fl;
+            flying = subst (λ (y : List Flight). In fl y) (sym fs ∙ flights_now few c t p1 g.grown) (in_right fl flights (fl ∷ []) (inl refl));
+            is = ap (λ (w : Who). request_of w boot fl) (sym s.life) ∙ ap (λ (n : ℕ). request_of (life_at c p) n fl) (sym (s.known t)) ∙ request_is head c stamp t p1 fl;
           }))
           tt refl
 
-      next : Good head c here p2 → Sending before (t + 1) p2
+      next : Good head c at p2 → Sending before (t + 1) p2
       next good =
           record {
             ended = record { good = good; settled = tt; between = record { idle = s.ended.between.idle; handles = s.ended.between.handles; calm = s.ended.between.calm } };
@@ -367,28 +197,28 @@ module _ (head : table.Head) (c : ℕ) (stamp : Stamp) where
             queue = λ u above. ap (λ (b : Bool). if b then rest (queue_at c u p) else queue_at c u p) (other u above) ∙ s.queue u above;
           }
 
-      by : (b : Bool) → has_room (limits_of head) t x.op flights ≡ b → (Sending before (t + 1) p2 → Sending before (t + 1) (with_turn here more p2))
-          → Sending before (t + 1) (with_turn here (if b then flies who boot t fl more else []) p)
+      by : (b : Bool) → has_room (limits_of head) t x.op flights ≡ b → (Sending before (t + 1) p2 → Sending before (t + 1) (with_turn at more p2))
+          → Sending before (t + 1) (with_turn at (if b then flies who boot t fl more else []) p)
       by true room on = let parts = and_parts (nat_lt (length flights) head.flight) (not (front_waits t x.op flights)) room in on (next (sent (flown parts.0 parts.1)))
       by false room on = s
 
-  sent_to : (before : List Line) (t : ℕ) (p : List Line) → Sending before t p → Sending before (t + 1) (with_turn here (sends_to (limits_of head) (life_at c before) t (import_at c t before)) p)
+  sent_to : (before : List Line) (t : ℕ) (p : List Line) → Sending before t p → Sending before (t + 1) (with_turn at (sends_to (limits_of head) (life_at c before) t (import_at c t before)) p)
   sent_to before t p s = by (standing_at c t before) refl
     where
       by : (x : Standing) → standing_at c t before ≡ x
-          → Sending before (t + 1) (with_turn here (if is_serving x then sends (limits_of head) (life_at c before) (known_at c t before) t (last_at c t before) (flights_at c t before) (queue_at c t before) else []) p)
+          → Sending before (t + 1) (with_turn at (if is_serving x then sends (limits_of head) (life_at c before) (known_at c t before) t (last_at c t before) (flights_at c t before) (queue_at c t before) else []) p)
       by Serving v =
           sends_good before t p (last_at c t before) (flights_at c t before) (queue_at c t before) (not_sent before t p s) v (s.last t (omega arith)) (s.flights t (omega arith)) (s.queue t (omega arith))
       by standing v = not_sent before t p s
 
-  sent_from : (before : List Line) (n t : ℕ) (p : List Line) → Sending before t p → Ended head c here (with_turn here (sends_all (limits_of head) (life_at c before) t (map (λ v. import_at c v before) (range_with_len t n))) p)
+  sent_from : (before : List Line) (n t : ℕ) (p : List Line) → Sending before t p → Ended head c at (with_turn at (sends_all (limits_of head) (life_at c before) t (map (λ v. import_at c v before) (range_with_len t n))) p)
   sent_from before zero t p s = s.ended
   sent_from before (suc n) t p s =
       let es = sends_to (limits_of head) (life_at c before) t (import_at c t before) in
       let more = sends_all (limits_of head) (life_at c before) (t + 1) (map (λ v. import_at c v before) (range_with_len (t + 1) n)) in
-      subst (Ended head c here) (sym (turn_more here es more p)) (sent_from before n (t + 1) (with_turn here es p) (sent_to before t p s))
+      subst (Ended head c at) (sym (turn_more at es more p)) (sent_from before n (t + 1) (with_turn at es p) (sent_to before t p s))
 
-  all_sent : Keeps (Ended head c here) (Ended head c here) (λ k. sends_all (limits_of head) k.who 0 k.imports)
+  all_sent : Keeps head c stamp (Ended head c at) (Ended head c at) (λ k. sends_all (limits_of head) k.who 0 k.imports)
   all_sent p e covered =
       sent_from p (head.osts + 1) 0 p (record { ended = e; life = refl; known = λ u. refl; standing = λ u. refl; last = λ u above. refl; flights = λ u above. refl; queue = λ u above. refl })
 
@@ -414,23 +244,23 @@ module _ (head : table.Head) (c : ℕ) (stamp : Stamp) where
   -- ---- unused locks are marked
 
   -- one that isn't pinned may be marked, and one that is just called back
-  pub mark_good : (p : List Line) (n : LockName) → Rested head c here p → EntryOk p here (Client c) (Marks n) → Rested head c here (line here (Marks n) ∷ p)
+  pub mark_good : (p : List Line) (n : LockName) → Rested head c at p → EntryOk p at (Client c) (Marks n) → Rested head c at (line at (Marks n) ∷ p)
   mark_good p n r ok =
       record {
-        good = adds p (Marks n) r.good (owes_nothing p here (Marks n) r.settled) ok (λ t e. tt) tt refl;
+        good = adds head c stamp p (Marks n) r.good (owes_nothing p at (Marks n) r.settled) ok (λ t e. tt) tt refl;
         settled = tt;
         idle = r.idle;
         handles = r.handles;
       }
 
   -- these are marked one after another
-  marks_good : (hs : List HeldLock) (p : List Line) → Rested head c here p → ((h : HeldLock) → In h hs → (x : HeldLock) → In x (held_at c p) → is_named (name_of h) x ≡ true → x.pins ≡ 0)
-      → Rested head c here (with_turn here (marks_of hs) p)
+  marks_good : (hs : List HeldLock) (p : List Line) → Rested head c at p → ((h : HeldLock) → In h hs → (x : HeldLock) → In x (held_at c p) → is_named (name_of h) x ≡ true → x.pins ≡ 0)
+      → Rested head c at (with_turn at (marks_of hs) p)
   marks_good [] p r free = r
   marks_good (h ∷ hs) p r free = marks_good hs p1 (mark_good p (name_of h) r (inl (free h (inl refl)))) next
     where
       p1 : List Line
-      p1 = line here (Marks (name_of h)) ∷ p
+      p1 = line at (Marks (name_of h)) ∷ p
 
       same : (g x : HeldLock) (b : Bool) → (is_named (name_of g) x ≡ true → x.pins ≡ 0) → is_named (name_of g) (if b then after change.Mark x else x) ≡ true → (if b then after change.Mark x else x).pins ≡ 0
       same g x true f e = f e
@@ -438,14 +268,14 @@ module _ (head : table.Head) (c : ℕ) (stamp : Stamp) where
 
       next : (g : HeldLock) → In g hs → (x : HeldLock) → In x (held_at c p1) → is_named (name_of g) x ≡ true → x.pins ≡ 0
       next g i x j =
-          let q = changed_only (name_of h) change.Mark x (held_at c p) (subst (λ (hs : List HeldLock). In x hs) (held_line p (Marks (name_of h))) j) in
+          let q = changed_only (name_of h) change.Mark x (held_at c p) (subst (λ (hs : List HeldLock). In x hs) (held_line head c stamp p (Marks (name_of h))) j) in
           subst (λ (y : HeldLock). is_named (name_of g) y ≡ true → y.pins ≡ 0) q.2 (same g q.0 (is_named (name_of h) q.0) (free g (inr i) q.0 q.1))
 
   -- one of the name of a free one is that one
-  free_named : (p : List Line) (h x : HeldLock) → Rested head c here p → In h (held_at c p) → h.pins ≡ 0 → In x (held_at c p) → is_named (name_of h) x ≡ true → x.pins ≡ 0
-  free_named p h x r i e j n = subst (λ (y : HeldLock). y.pins ≡ 0) (once_same (held_at c p) h x (held_once the_head c p r.good.grown) i j n) e
+  free_named : (p : List Line) (h x : HeldLock) → Rested head c at p → In h (held_at c p) → h.pins ≡ 0 → In x (held_at c p) → is_named (name_of h) x ≡ true → x.pins ≡ 0
+  free_named p h x r i e j n = subst (λ (y : HeldLock). y.pins ≡ 0) (once_same (held_at c p) h x (held_once few c p r.good.grown) i j n) e
 
-  trimmed : Keeps (Rested head c here) (Rested head c here) (trims (limits_of head))
+  trimmed : Keeps head c stamp (Rested head c at) (Rested head c at) (trims (limits_of head))
   trimmed p r covered =
       let held = held_at c p in
       marks_good (reverse (drop head.unused (filter is_free held))) p r
@@ -453,150 +283,228 @@ module _ (head : table.Head) (c : ℕ) (stamp : Stamp) where
       let k = in_filter is_free h held (in_drop head.unused h (filter is_free held) (in_reverse h (drop head.unused (filter is_free held)) i)) in
       free_named p h x r k.0 (eqb-true h.pins 0 (and_parts (nat_eq h.pins 0) (not h.marked) k.1).0) j n)
 
-  -- ---- marked locks are given up
+  -- ---- changes are written back
 
-  no_write : (h : HeldLock) (m : Mode) (q : Policy) → must_write false h m q clean ≡ false
-  no_write h PW (Range extent) = never (is_called h)
+  -- a lock on a range is on an object of an object storage target
+  range_object : (p : List Line) (h : HeldLock) → Grown few p → In h (held_at c p) → HasRange h.lock.ask.policy → 0 < h.target.0
+  range_object p h g i range =
+      ⊎_elim {C = 0 < h.target.0} (λ k. absurd (bits_range h.lock.ask.policy k.1.1 range)) (λ k. k.0) (held_kind few h.target.0 p g c h (held_in c p h i))
+
+  -- the next change under a held lock is taken, and queued for no call
+  back_good : (p : List Line) (h : HeldLock) (change : Flush) → Rested head c at p → In h (held_at c p) → flush_under (patch_at h.lock.resource (patches_at c p)) h.lock.ask.mode h.lock.ask.policy ≡ Some change
+      → in_flight (patch_at h.lock.resource (patches_at c p)) ≡ false → Rested head c at (with_turn at (writes_back h.target h.lock change) p)
+  back_good p h change r i next alone =
+      record {
+        good = queued;
+        settled = r.settled;
+        idle = idle_same c p p2 (λ slot. call_line head c stamp slot p1 e2) refl (lasts_taken c stamp p h.lock.resource change) r.idle;
+        handles = r.handles;
+      }
     where
-      never : (b : Bool) → ((b && false) || false) ≡ false
-      never true = refl
-      never false = refl
-  no_write h m q = refl
+      e1 : Entry
+      e1 = WritesBack h.lock.resource change
+
+      e2 : Entry
+      e2 = Queues h.target.0 (record { slot = None; op = operation h.lock.resource h.lock.cookie change })
+
+      p1 : List Line
+      p1 = line at e1 ∷ p
+
+      p2 : List Line
+      p2 = line at e2 ∷ p1
+
+      writer : (h.lock.ask.mode ≡ PW) × HasRange h.lock.ask.policy
+      writer = flush_writer (patch_at h.lock.resource (patches_at c p)) h.lock.ask.mode h.lock.ask.policy change next
+
+      taken : Good head c at p1
+      taken = adds head c stamp p e1 r.good (owes_nothing p at e1 r.settled) (record { holding = h; held = i; mode = writer.0; of_object = refl; next = next; alone = alone }) (λ t e. tt) tt refl
+
+      queued : Good head c at p2
+      queued =
+          adds head c stamp p1 e2 taken (owes_nothing p1 at e2 r.settled)
+          (inr (record {
+            serves = refl;
+            holding = h;
+            held = i;
+            of_target = refl;
+            object = range_object p h r.good.grown i writer.1;
+            mode = writer.0;
+            change = change;
+            takes = (refl, refl);
+            of_op = refl;
+          })) (λ t e. back_in_order h.lock.resource h.lock.cookie change) tt refl
+
+  -- ---- the pass over the held locks
 
   abbrev given_up : Who → ℕ → HeldLock → List Entry
   given_up who boot x = Drop x.target.0 x.lock ∷ Send (Target x.target.0) (message.Cancel who boot x.lock.cookie) ∷ []
 
-  visits_so : (p : List Line) (x : HeldLock) → Good head c here p → In x (held_at c p)
-      → visits false x (client_of head c p) ≡ (if is_called x && is_serving (standing_at c x.target.0 p) then given_up (life_at c p) (known_at c x.target.0 p) x else [])
-  visits_so p x g i =
-      ap (λ (ps : List _). visits_with false x (patch_at x.lock.resource ps) (client_of head c p)) (patches_none c p g.covered)
-      ∙ cond-false (must_write false x x.lock.ask.mode x.lock.ask.policy clean) _ (gives_up (life_at c p) x (import_of x.target.0 (client_of head c p).imports)) (no_write x x.lock.ask.mode x.lock.ask.policy)
-      ∙ ap (λ (j : Import). gives_up (life_at c p) x j) (import_there p x.target.0 (held_limited head.osts the_head c p g.grown g.there x i))
-
-  -- these locks are held, and no other held one that isn't pinned is marked where its target serves
+  -- these locks are held, and no other held one that isn't pinned is marked where its target serves, but one to write under
   record Visiting (rs : List HeldLock) (p : List Line) : Type 0 where
-    rested : Rested head c here p
+    rested : Rested head c at p
     held : (x : HeldLock) → In x rs → In x (held_at c p)
-    marked : (x : HeldLock) → In x (held_at c p) → standing_at c x.target.0 p ≡ Serving → (is_called x ≡ false) ⊎ In x rs
+    marked : (x : HeldLock) → In x (held_at c p) → standing_at c x.target.0 p ≡ Serving → (is_called x ≡ false) ⊎ (x.lock.ask.mode ≡ PW) ⊎ In x rs
 
-  visited : (p : List Line) (r : HeldLock) (rs : List HeldLock) → Once (r ∷ rs) → Visiting (r ∷ rs) p → Visiting rs (with_turn here (visits false r (client_of head c p)) p)
-  visited p r rs once v =
-      subst (λ (es : List Entry). Visiting rs (with_turn here es p)) (sym (visits_so p r v.rested.good (v.held r (inl refl)))) (by_standing (standing_at c t p) refl)
-    where
-      t : ℕ
-      t = r.target.0
+  module _ (over : Bool) (p : List Line) (r : HeldLock) (rs : List HeldLock) (once : Once (r ∷ rs)) (v : Visiting (r ∷ rs) p) where
+    abbrev patch : Patch
+    patch = patch_at r.lock.resource (patches_at c p)
 
-      name : LockName
-      name = name_of r
+    i : In r (held_at c p)
+    i = v.held r (inl refl)
 
-      p1 : List Line
-      p1 = line here (Drop t r.lock) ∷ p
+    visits_so : visits over r (client_of head c p)
+        ≡ (if must_write over r r.lock.ask.mode r.lock.ask.policy patch then writes_under r patch
+        else if is_called r && is_serving (standing_at c r.target.0 p) then given_up (life_at c p) (known_at c r.target.0 p) r else [])
+    visits_so =
+        ap (λ (j : Import). if must_write over r r.lock.ask.mode r.lock.ask.policy patch then writes_under r patch else gives_up (life_at c p) r j)
+        (import_there p r.target.0 (held_limited head.osts few c p v.rested.good.grown v.rested.good.there r i))
 
-      p2 : List Line
-      p2 = line here (Send (Target t) (message.Cancel (life_at c p) (known_at c t p) r.lock.cookie)) ∷ p1
-
-      left : held_at c p1 ≡ without name (held_at c p)
-      left = held_line p (Drop t r.lock)
-
-      -- the one that goes is of that target's story
-      story : only t p1 ≡ line here (Drop t r.lock) ∷ only t p
-      story = ap (λ (b : Bool). if b then line here (Drop t r.lock) ∷ only t p else only t p) (self t)
-
-      dropped : standing_at c t p ≡ Serving → is_called r ≡ true → Good head c here p1
-      dropped serves called =
-          let parts = and_parts r.marked (nat_eq r.pins 0) called in
-          adds p (Drop t r.lock) v.rested.good (owes_nothing p here (Drop t r.lock) v.rested.settled)
-          (inl (record { holding = r; held = v.held r (inl refl); of_target = refl; is = refl; marked = parts.0; free = eqb-true r.pins 0 parts.1; serves = serves }))
-          (at_one t (λ (u : ℕ). DropOk (only u p) c t r.lock) (record {
-            holding = r;
-            held = held_into c t p r refl (v.held r (inl refl));
-            of_target = refl;
-            is = refl;
-            there = λ h i. (held_back c t p h i).1;
-          }))
-          tt refl
-
-      cancelled : Good head c here p1 → Good head c here p2
-      cancelled g =
-          adds p1 (Send (Target t) (message.Cancel (life_at c p) (known_at c t p) r.lock.cookie)) g (owes_nothing p1 here (Send (Target t) (message.Cancel (life_at c p) (known_at c t p) r.lock.cookie)) tt) tt
-          (at_one t (λ (u : ℕ). CancelOk (only u p1) c t (life_at c p) (known_at c t p) r.lock.cookie) (record {
-            of_life = life_is_of c t p1;
-            of_boot = known_is c t p1;
-            free = held_name c p1 name ∙ ap (is_held name) left ∙ without_gone name (held_at c p);
-            cause = inl (subst (λ (q : List Line). Dropped q c t r.lock.cookie) (sym story) (refl, refl, refl));
-            there = λ h i. (held_back c t p1 h i).1;
-          }))
-          tt refl
-
-      by : standing_at c t p ≡ Serving → (b : Bool) → is_called r ≡ b → Visiting rs (with_turn here (if b && true then given_up (life_at c p) (known_at c t p) r else []) p)
-      by serves false e = record { rested = v.rested; held = λ x i. v.held x (inr i); marked = marked }
-        where
-          marked : (x : HeldLock) → In x (held_at c p) → standing_at c x.target.0 p ≡ Serving → (is_called x ≡ false) ⊎ In x rs
-          marked x i q = ⊎_elim (λ (m : is_called x ≡ false). inl m) (λ (j : In x (r ∷ rs)). ⊎_elim (λ (s : r ≡ x). inl (subst (λ (y : HeldLock). is_called y ≡ false) s e)) (λ (k : In x rs). inr k) j) (v.marked x i q)
-      by serves true e =
-          record {
-            rested = record {
-              good = cancelled (dropped serves e);
-              settled = tt;
-              idle = v.rested.idle;
-              handles = v.rested.handles;
-            };
-            held = λ x i. subst (λ (hs : List HeldLock). In x hs) (sym left) (without_other name x (held_at c p) (v.held x (inr i)) (once.0 x i));
-            marked = λ x i q. ⊎_elim (λ (m : is_called x ≡ false). inl m) (λ (j : In x (r ∷ rs)). ⊎_elim (λ (s : r ≡ x). absurd (other x i s)) (λ (k : In x rs). inr k) j) (v.marked x (was x i).0 q);
-          }
-        where
-          was : (x : HeldLock) → In x (held_at c p1) → In x (held_at c p) × (is_named name x ≡ false)
-          was x i = without_only name x (held_at c p) (subst (λ (hs : List HeldLock). In x hs) left i)
-
-          other : (x : HeldLock) → In x (held_at c p1) → r ≡ x → ⊥
-          other x i s = let q : true ≡ false = sym (own_name name) ∙ ap (is_named name) s ∙ (was x i).1 in cc
-
-      -- where its target doesn't serve, it stays
-      stays : (b : Bool) → (standing_at c t p ≡ Serving → ⊥) → Visiting rs (with_turn here (if b && false then given_up (life_at c p) (known_at c t p) r else []) p)
-      stays b n = by b
-        where
-          marked : (x : HeldLock) → In x (held_at c p) → standing_at c x.target.0 p ≡ Serving → (is_called x ≡ false) ⊎ In x rs
-          marked x i q =
+    -- one that stays: it is one to write under, or isn't called back, or its target doesn't serve
+    stays : ((x : HeldLock) → r ≡ x → standing_at c x.target.0 p ≡ Serving → (is_called x ≡ false) ⊎ (x.lock.ask.mode ≡ PW)) → Visiting rs p
+    stays own =
+        record {
+          rested = v.rested;
+          held = λ x j. v.held x (inr j);
+          marked = λ x j q.
               ⊎_elim (λ (m : is_called x ≡ false). inl m)
-              (λ (j : In x (r ∷ rs)). ⊎_elim (λ (s : r ≡ x). absurd (n (ap (λ (y : HeldLock). standing_at c y.target.0 p) s ∙ q))) (λ (k : In x rs). inr k) j) (v.marked x i q)
+              (λ (k : (x.lock.ask.mode ≡ PW) ⊎ In x (r ∷ rs)). ⊎_elim (λ (m : x.lock.ask.mode ≡ PW). inr (inl m))
+              (λ (k : In x (r ∷ rs)). ⊎_elim (λ (s : r ≡ x). ⊎_elim (λ (m : is_called x ≡ false). inl m) (λ (m : x.lock.ask.mode ≡ PW). inr (inl m)) (own x s q)) (λ (k : In x rs). inr (inr k)) k) k)
+              (v.marked x j q);
+        }
 
-          kept : Visiting rs p
-          kept = record { rested = v.rested; held = λ x i. v.held x (inr i); marked = marked }
+    writer_stays : r.lock.ask.mode ≡ PW → Visiting rs p
+    writer_stays m = stays (λ x s q. inr (subst (λ (y : HeldLock). y.lock.ask.mode ≡ PW) s m))
 
-          by : (b : Bool) → Visiting rs (with_turn here (if b && false then given_up (life_at c p) (known_at c t p) r else []) p)
-          by true = kept
-          by false = kept
+    -- it writes back
+    writes : r.lock.ask.mode ≡ PW → Visiting rs (with_turn at (writes_under r patch) p)
+    writes m = by (in_flight patch) refl (flush_under patch r.lock.ask.mode r.lock.ask.policy) refl
+      where
+        by : (b : Bool) → in_flight patch ≡ b → (o : Option Flush) → flush_under patch r.lock.ask.mode r.lock.ask.policy ≡ o → Visiting rs (with_turn at (if b then [] else writes_next r o) p)
+        by true e o f = writer_stays m
+        by false e None f = writer_stays m
+        by false e (Some change) f = let w = writer_stays m in record { rested = back_good p r change v.rested i f e; held = w.held; marked = w.marked }
 
-      by_standing : (s : Standing) → standing_at c t p ≡ s → Visiting rs (with_turn here (if is_called r && is_serving s then given_up (life_at c p) (known_at c t p) r else []) p)
-      by_standing Serving e = by e (is_called r) refl
-      by_standing Joining e = stays (is_called r) (λ q. let j : Joining ≡ Serving = sym e ∙ q in cc)
-      by_standing Recovering e = stays (is_called r) (λ q. let j : Recovering ≡ Serving = sym e ∙ q in cc)
+    -- or goes
+    abbrev t : ℕ
+    t = r.target.0
+
+    abbrev name : LockName
+    name = name_of r
+
+    abbrev p1 : List Line
+    p1 = line at (Drop t r.lock) ∷ p
+
+    abbrev p2 : List Line
+    p2 = line at (Send (Target t) (message.Cancel (life_at c p) (known_at c t p) r.lock.cookie)) ∷ p1
+
+    left : held_at c p1 ≡ without name (held_at c p)
+    left = held_line head c stamp p (Drop t r.lock)
+
+    -- the one that goes is of that target's story
+    story : only t p1 ≡ line at (Drop t r.lock) ∷ only t p
+    story = ap (λ (b : Bool). if b then line at (Drop t r.lock) ∷ only t p else only t p) (self t)
+
+    dropped : standing_at c t p ≡ Serving → is_called r ≡ true → Good head c at p1
+    dropped serves called =
+        let parts = and_parts r.marked (nat_eq r.pins 0) called in
+        adds head c stamp p (Drop t r.lock) v.rested.good (owes_nothing p at (Drop t r.lock) v.rested.settled)
+        (inl (record { holding = r; held = i; of_target = refl; is = refl; marked = parts.0; free = eqb-true r.pins 0 parts.1; serves = serves }))
+        (at_one head c stamp t (λ (u : ℕ). DropOk (only u p) c t r.lock) (record {
+          holding = r;
+          held = held_into c t p r refl i;
+          of_target = refl;
+          is = refl;
+          there = λ h i. (held_back c t p h i).1;
+        }))
+        tt refl
+
+    cancelled : Good head c at p1 → Good head c at p2
+    cancelled g =
+        let e = Send (Target t) (message.Cancel (life_at c p) (known_at c t p) r.lock.cookie) in
+        adds head c stamp p1 e g (owes_nothing p1 at e tt) tt
+        (at_one head c stamp t (λ (u : ℕ). CancelOk (only u p1) c t (life_at c p) (known_at c t p) r.lock.cookie) (record {
+          of_life = life_is_of c t p1;
+          of_boot = known_is c t p1;
+          free = held_name c p1 name ∙ ap (is_held name) left ∙ without_gone name (held_at c p);
+          cause = inl (subst (λ (q : List Line). Dropped q c t r.lock.cookie) (sym story) (refl, refl, refl));
+          there = λ h i. (held_back c t p1 h i).1;
+        }))
+        tt refl
+
+    goes : standing_at c t p ≡ Serving → is_called r ≡ true → Visiting rs p2
+    goes serves e =
+        record {
+          rested = record {
+            good = cancelled (dropped serves e);
+            settled = tt;
+            idle = v.rested.idle;
+            handles = v.rested.handles;
+          };
+          held = λ x i. subst (λ (hs : List HeldLock). In x hs) (sym left) (without_other name x (held_at c p) (v.held x (inr i)) (once.0 x i));
+          marked = λ x i q.
+              ⊎_elim (λ (m : is_called x ≡ false). inl m)
+              (λ (k : (x.lock.ask.mode ≡ PW) ⊎ In x (r ∷ rs)). ⊎_elim (λ (m : x.lock.ask.mode ≡ PW). inr (inl m))
+              (λ (j : In x (r ∷ rs)). ⊎_elim (λ (s : r ≡ x). absurd (other x i s)) (λ (k : In x rs). inr (inr k)) j) k) (v.marked x (was x i).0 q);
+        }
+      where
+        was : (x : HeldLock) → In x (held_at c p1) → In x (held_at c p) × (is_named name x ≡ false)
+        was x i = without_only name x (held_at c p) (subst (λ (hs : List HeldLock). In x hs) left i)
+
+        other : (x : HeldLock) → In x (held_at c p1) → r ≡ x → ⊥
+        other x i s = let q : true ≡ false = sym (own_name name) ∙ ap (is_named name) s ∙ (was x i).1 in cc
+
+    gone_or : Visiting rs (with_turn at (if is_called r && is_serving (standing_at c r.target.0 p) then given_up (life_at c p) (known_at c r.target.0 p) r else []) p)
+    gone_or = by (is_called r) refl (standing_at c r.target.0 p) refl
+      where
+        not_called : is_called r ≡ false → Visiting rs p
+        not_called e = stays (λ x s q. inl (subst (λ (y : HeldLock). is_called y ≡ false) s e))
+
+        not_served : (standing_at c r.target.0 p ≡ Serving → ⊥) → Visiting rs p
+        not_served n = stays (λ x s q. absurd (n (ap (λ (y : HeldLock). standing_at c y.target.0 p) s ∙ q)))
+
+        by : (b : Bool) → is_called r ≡ b → (x : Standing) → standing_at c r.target.0 p ≡ x → Visiting rs (with_turn at (if b && is_serving x then given_up (life_at c p) (known_at c r.target.0 p) r else []) p)
+        by false e x q = not_called e
+        by true e Serving q = goes q e
+        by true e Joining q = not_served (λ k. let j : Joining ≡ Serving = sym q ∙ k in absurd (cc))
+        by true e Recovering q = not_served (λ k. let j : Recovering ≡ Serving = sym q ∙ k in absurd (cc))
+
+    visited : Visiting rs (with_turn at (visits over r (client_of head c p)) p)
+    visited = subst (λ (es : List Entry). Visiting rs (with_turn at es p)) (sym visits_so) (by (must_write over r r.lock.ask.mode r.lock.ask.policy patch) refl)
+      where
+        by : (b : Bool) → must_write over r r.lock.ask.mode r.lock.ask.policy patch ≡ b
+            → Visiting rs (with_turn at (if b then writes_under r patch else if is_called r && is_serving (standing_at c r.target.0 p) then given_up (life_at c p) (known_at c r.target.0 p) r else []) p)
+        by true e = writes (must_writer over r r.lock.ask.mode r.lock.ask.policy patch e)
+        by false e = gone_or
 
   not_called : (marked : Bool) (pins : ℕ) → pins ≡ 0 → (marked && nat_eq pins 0) ≡ false → marked ≡ false
   not_called false pins free e = refl
   not_called true pins free e = absurd (let z : nat_eq pins 0 ≡ true = ap (λ (n : ℕ). nat_eq n 0) free in cc)
 
-  visits_good : (rs : List HeldLock) → Once rs → (p : List Line) → Visiting rs p → Ended head c here (with_turn here (visits_all false rs (client_of head c p)) p)
-  visits_good [] once p v =
+  visits_good : (over : Bool) (rs : List HeldLock) → Once rs → (p : List Line) → Visiting rs p → Ended head c at (with_turn at (visits_all over rs (client_of head c p)) p)
+  visits_good over [] once p v =
       record {
         good = v.rested.good;
         settled = v.rested.settled;
-        between = record { idle = v.rested.idle; handles = v.rested.handles; calm = λ x i s free. ⊎_elim (λ (m : is_called x ≡ false). not_called x.marked x.pins free m) (λ (n : ⊥). absurd n) (v.marked x i s) };
+        between = record {
+          idle = v.rested.idle;
+          handles = v.rested.handles;
+          calm = λ x i s free other.
+              ⊎_elim (λ (m : is_called x ≡ false). not_called x.marked x.pins free m) (λ (k : (x.lock.ask.mode ≡ PW) ⊎ ⊥). ⊎_elim (λ (m : x.lock.ask.mode ≡ PW). absurd (other m)) (λ (n : ⊥). absurd n) k) (v.marked x i s);
+        };
       }
-  visits_good (r ∷ rs) once p v =
-      let es = visits false r (client_of head c p) in
-      subst (λ (q : List Line). Ended head c here q) (sym (followed es (visits_all false rs) p)) (visits_good rs once.1 (with_turn here es p) (visited p r rs once v))
+  visits_good over (r ∷ rs) once p v =
+      let es = visits over r (client_of head c p) in
+      subst (λ (q : List Line). Ended head c at q) (sym (followed head c stamp es (visits_all over rs) p)) (visits_good over rs once.1 (with_turn at es p) (visited over p r rs once v))
 
-  locks_gone : Keeps (Rested head c here) (Ended head c here) (locks_go (limits_of head))
+  locks_gone : Keeps head c stamp (Rested head c at) (Ended head c at) (locks_go (limits_of head))
   locks_gone p r covered =
       let held = held_at c p in
-      let over : nat_lt head.dirty (dirty_total (client_of head c p).store.patches) ≡ false = ap (λ (ps : List _). nat_lt head.dirty (dirty_total ps)) (patches_none c p r.good.covered) ∙ not_over head.dirty in
-      subst (λ (b : Bool). Ended head c here (with_turn here (visits_all b (in_order held) (client_of head c p)) p)) (sym over)
-      (visits_good (in_order held) (once_ordered held (held_once the_head c p r.good.grown)) p (record { rested = r; held = λ x i. in_ordered x held i; marked = λ x i s. inr (ordered_in x held i) }))
+      visits_good (nat_lt head.dirty (dirty_total (patches_at c p))) (in_order held) (once_ordered held (held_once few c p r.good.grown)) p
+      (record { rested = r; held = λ x i. in_ordered x held i; marked = λ x i s. inr (inr (ordered_in x held i)) })
 
   -- ---- all of it, once the calls have gone as far as they can
 
-  pub ended : Keeps (Rested head c here) (Ended head c here) (λ k. follow (trims (limits_of head) k) (λ k. follow (locks_go (limits_of head) k) (λ k. sends_all (limits_of head) k.who 0 k.imports) k) k)
+  pub ended : Keeps head c stamp (Rested head c at) (Ended head c at) (λ k. follow (trims (limits_of head) k) (λ k. follow (locks_go (limits_of head) k) (λ k. sends_all (limits_of head) k.who 0 k.imports) k) k)
   ended =
-      keeps_more (Rested head c here) (Rested head c here) (Ended head c here) (trims (limits_of head)) (λ k. follow (locks_go (limits_of head) k) (λ k. sends_all (limits_of head) k.who 0 k.imports) k) trimmed
-      (keeps_more (Rested head c here) (Ended head c here) (Ended head c here) (locks_go (limits_of head)) (λ k. sends_all (limits_of head) k.who 0 k.imports) locks_gone all_sent)
+      keeps_more head c stamp (Rested head c at) (Rested head c at) (Ended head c at) (trims (limits_of head)) (λ k. follow (locks_go (limits_of head) k) (λ k. sends_all (limits_of head) k.who 0 k.imports) k) trimmed
+      (keeps_more head c stamp (Rested head c at) (Ended head c at) (Ended head c at) (locks_go (limits_of head)) (λ k. sends_all (limits_of head) k.who 0 k.imports) locks_gone all_sent)

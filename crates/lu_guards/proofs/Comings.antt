@@ -22,7 +22,7 @@ use Rattle.lu_guards.proofs.StoryGuards.{AskOk, SendOf, EntryOf}
 use Rattle.lu_guards.proofs.Grown.{Grown, GrownOf}
 use Rattle.lu_guards.proofs.Lists.{turn, self}
 use Rattle.lu_guards.proofs.Parts.{flights_now}
-use Rattle.lu_guards.proofs.ClientLines.{IsSize, IsLock, IsAskedOf, flights_asked}
+use Rattle.lu_guards.proofs.ClientLines.{IsOnObject, IsAskedOf, flights_asked}
 
 -- ---- no message of a client is of a later boot than the target's
 
@@ -103,15 +103,17 @@ request_asked head (l ∷ past) c t r g w = by l.entry w g.0.of (λ v. request_a
     by (Send to x) (inr q) of more = more q
     by e q of more = more q
 
-pub asked_object : (t : ℕ) (o : Op) → 0 < t → IsAskedOf t o → IsSize o ⊎ IsLock o
+pub asked_object : (t : ℕ) (o : Op) → 0 < t → IsAskedOf t o → IsOnObject o
 asked_object t o high (inl a) = absurd (let zero = a.0 in omega (arith, zero, high))
 asked_object t o high (inr a) = a.1
 
--- ---- what clients send to a target: requests, cancels, joins, and what is told in a recovery
+-- ---- what clients send to a target: requests, cancels, where a lock is, how long an object is, joins, and what is told in a recovery
 
 abbrev pub IsAsked : ℕ → Message → Type 0
 IsAsked t (message.Request r) = IsAskedOf t r.op
 IsAsked t (message.Cancel who boot cookie) = Unit {0}
+IsAsked t (message.Where who boot cookie) = Unit {0}
+IsAsked t (message.Size m) = Unit {0}
 IsAsked t (message.Join who boot) = Unit {0}
 IsAsked t (message.Replay r) = Unit {0}
 IsAsked t (message.Lock r) = Unit {0}
@@ -128,6 +130,8 @@ sends_so : (head : Head) (past : List Line) (at : At) (from : Node) (t : ℕ) (m
     → ((c : ℕ) → from ≡ node.Client c → SendOf head (only t past) (node.Client c) (node.Target t) m) → Asks from t m
 sends_so head past at (node.Client c) t (message.Request r) g ok of = record { client = c; is = refl; asked = ask_asked head past c t r g (of c refl) }
 sends_so head past at (node.Client c) t (message.Cancel who boot cookie) g ok of = record { client = c; is = refl; asked = tt }
+sends_so head past at (node.Client c) t (message.Where who boot cookie) g ok of = record { client = c; is = refl; asked = tt }
+sends_so head past at (node.Client c) t (message.Size m) g ok of = record { client = c; is = refl; asked = tt }
 sends_so head past at (node.Client c) t (message.Join who boot) g ok of = record { client = c; is = refl; asked = tt }
 sends_so head past at (node.Client c) t (message.Replay r) g ok of = record { client = c; is = refl; asked = tt }
 sends_so head past at (node.Client c) t (message.Lock r) g ok of = record { client = c; is = refl; asked = tt }

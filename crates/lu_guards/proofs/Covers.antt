@@ -1,5 +1,5 @@
 -- The entries of a turn that is covered; no call to a disk fails in it.
-use Rattle.std.proofs.Common.{◌≡◌, ℕ, zero, suc, List, [], ◌∷◌, Option, Some, None, refl, ap}
+use Rattle.std.proofs.Common.{◌≡◌, ℕ, zero, suc, List, [], ◌∷◌, ◌++◌, Option, Some, None, refl, ap}
 use Rattle.lu_base.specs.declared.ids.At.{At}
 use Rattle.lu_words.specs.Words.{Entry, Commit, Boot, Line, line, with_turn}
 use Rattle.lu_target_rows.specs.Disks.{failing, over_disk}
@@ -25,3 +25,13 @@ failing_none (e ∷ es) n c = ap (λ (xs : List Entry). e ∷ xs) (failing_none 
 pub over_none : (fails : Option ℕ) (es : List Entry) → EntriesCovered (over_disk fails es) → over_disk fails es ≡ es
 over_none None es c = refl
 over_none (Some n) es c = failing_none es n c
+
+-- ---- parts of a row that are covered
+
+pub covered_left : (es fs : List Entry) → EntriesCovered (es ++ fs) → EntriesCovered es
+covered_left [] fs c = tt
+covered_left (e ∷ es) fs c = (c.0, covered_left es fs c.1)
+
+pub covered_right : (es fs : List Entry) → EntriesCovered (es ++ fs) → EntriesCovered fs
+covered_right [] fs c = c
+covered_right (e ∷ es) fs c = covered_right es fs c.1

@@ -14,9 +14,9 @@ use Rattle.lu_msg.specs.declared.messages.Request.{Request as RequestOf}
 use Rattle.lu_held.specs.declared.names.LockName.{LockName}
 use Rattle.lu_held.specs.Locks.{named}
 use Rattle.lu_words.specs.Carried.{Flight}
-use Rattle.lu_words.specs.Words.{Send, Take, Heard, Hold, Drop, Told, Marks, Learns, Line, turn_before, Life}
+use Rattle.lu_words.specs.Words.{Entry, Send, Take, Heard, Hold, Drop, Told, Marks, Learns, Line, turn_before, Life}
 use Rattle.lu_covered.specs.Calls.{life_at}
-use Rattle.lu_covered.specs.ClientStates.{known_of, life_of}
+use Rattle.lu_covered.specs.ClientStates.{is_own, known_of, life_of}
 
 -- a lock on a range of bytes of an object
 abbrev pub HasRange : Policy → Type 0
@@ -33,6 +33,11 @@ In x (y ∷ ys) = (y ≡ x) ⊎ In x ys
 abbrev pub Was : List Line → (from to : Node) → Message → Type 0
 Was [] from to m = ⊥
 Was (l ∷ past) from to m = elim l.entry [ Send node message ↦ ((l.at.node ≡ from) × (node ≡ to) × (message ≡ m)) ⊎ Was past from to m | _ ↦ Was past from to m ]
+
+-- the life heard that reply to that request: reads Heard
+abbrev pub HeardAs : List Line → Who → Flight → ReplyTo → Type 0
+HeardAs [] who f r = ⊥
+HeardAs (l ∷ past) who f r = elim l.entry [ Heard t g k ↦ ((is_own who past l.at.node ≡ true) × (g ≡ f) × (k ≡ r)) ⊎ HeardAs past who f r | _ ↦ HeardAs past who f r ]
 
 -- in that turn that reply of that target was heard, and nothing was told since: reads Heard and Told
 abbrev pub JustHeard : List Line → At → (target : ℕ) → ReplyTo → Type 0
@@ -104,6 +109,11 @@ abbrev pub name_of : ℕ → Cookie → LockName
 name_of t cookie = named (record { 0 = t }) cookie
 
 -- ---- turns
+
+-- a line of that turn is such an entry
+abbrev pub InTurn : (Entry → Type 0) → List Line → At → Type 0
+InTurn P [] at = ⊥
+InTurn P (l ∷ past) at = ((l.at ≡ at) × P l.entry) ⊎ InTurn P past at
 
 -- the newest turn is earlier
 abbrev pub Later : List Line → At → Type 0

@@ -1,7 +1,7 @@
 -- Each covered run of the table makes lines that are allowed, one after another; after each turn nothing is owed, no life is ending, no
--- target has a message to keep or a life to tell of as back, and between its turns each call of a client waits, for its reply or for other
--- calls on its open; none of its held locks on names is pinned, and none is marked where its target serves it, its handles are bound as
--- calls say, and each target is what its story says.
+-- target has a message to keep or a life to tell of as back, and between its turns each call of a client waits, for its reply, for a lock or
+-- for other calls on its open; none of its held locks on names is pinned, and none is marked where its target serves it, its handles are bound
+-- as calls say, the locks that it waits for are those of its calls, and each target is what its story says.
 use Rattle.std.proofs.Common.{◌≡◌, ℕ, ◌≤◌, Bool, true, false, List, [], ◌∷◌, inl, inr, None, refl, sym, subst, ap, ◌∙◌}
 use Rattle.std.specs.Prelude.{nat_eq, ◌&&◌}
 use Rattle.std.proofs.lemmas.Bool.{eqb-true}
@@ -9,23 +9,25 @@ use Rattle.lu_base.specs.declared.ids.At.{At}
 use Rattle.lu_base.specs.declared.ids.Node.{Node}
 use Rattle.lu_base.specs.declared.ids.Node.TheVariants.{Client, Target}
 use Rattle.lu_base.specs.declared.ids.Stamp.{Stamp}
+use Rattle.lu_base.specs.declared.locks.Resource.{Resource}
 use Rattle.lu_held.specs.declared.locks.HeldLock.{HeldLock}
 use Rattle.lu_words.specs.Words.{Entry, Line, line, with_turn, is_client}
 use Rattle.lu_words.specs.Fields.{on, at_client, at_import}
 use Rattle.lu_words.specs.Concerns.{is_about}
 use Rattle.lu_target_rows.specs.Disks.{row_start}
-use Rattle.lu_client_rows.specs.Caches.{reads_held, held_after, held_at}
+use Rattle.lu_client_rows.specs.Caches.{reads_held, held_after, held_at, patch_at, reads_patches, patches_after}
 use Rattle.lu_client_rows.specs.Calls.{reads_handles, handles_after, file_of}
+use Rattle.lu_client_rows.specs.Patches.{Patch}
 use Rattle.lu_client_rows.specs.Rows as client
 use Rattle.lu_target_rows.specs.Rows as target
-use Rattle.lu_covered.specs.Calls.{reads_call, call_after}
+use Rattle.lu_covered.specs.Calls.{reads_call, call_after, reads_life, life_after, first_life}
 use Rattle.lu_covered.specs.Covered.{AllCovered}
 use Rattle.lu_covered.specs.Heads.{IsAlive}
 use Rattle.lu_covered.specs.Imports.{Serving, reads_standing, standing_after}
 use Rattle.lu_table.specs.Heads as table
 use Rattle.lu_table.specs.Runs as table_runs
 use Rattle.lu_table.specs.Runs.{limits_of, client_of, row, MeetsClient, MeetsTarget, IsRow, Turn, lines_of, IsRun}
-use Rattle.lu_guards.proofs.Guards.{In, Later, Ending, is_welcome}
+use Rattle.lu_guards.proofs.Guards.{In, HasChange, Later, Ending, is_welcome}
 use Rattle.lu_guards.proofs.Grown.{Noted, Grown}
 use Rattle.lu_guards.proofs.Lists.{turn}
 use Rattle.lu_guards.proofs.Ends.{closed_row, closed_target}
@@ -33,8 +35,10 @@ use Rattle.lu_guards.proofs.Turns.{covered_head, Settled, settled_after, noted_a
 use Rattle.lu_guards.proofs.Covers.{covered_turn, over_none}
 use Rattle.lu_guards.proofs.ClientLines.{AllThere, there_turn, on_other}
 use Rattle.lu_guards.proofs.ClientHandles.{file_other}
-use Rattle.lu_guards.proofs.ClientRests.{Between, idle_same}
-use Rattle.lu_guards.proofs.ClientTurns.{client_ok}
+use Rattle.lu_guards.proofs.ClientGood.{Between, idle_same}
+use Rattle.lu_guards.proofs.Awaits.{Awaits, awaits_start}
+use Rattle.lu_guards.proofs.AwaitsTurns.{awaits_other}
+use Rattle.lu_guards.proofs.ClientTurns.{Closed, client_ok}
 use Rattle.lu_guards.proofs.ClientReady.{welcome_other, welcome_client}
 use Rattle.lu_guards.proofs.TargetTurns.{of_target, target_ok, ServesBetween, serves_start, serves_client}
 
@@ -57,7 +61,8 @@ import_other {A} reads after start c t at (e ∷ es) past other =
 between_other : (c : ℕ) (at : At) (es : List Entry) (past : List Line) → is_client c at.node ≡ false → Between c past → Between c (with_turn at es past)
 between_other c at es past other b =
     record {
-      idle = idle_same c past (with_turn at es past) (λ slot. field_other reads_call (call_after slot) None c at es past other) b.idle;
+      idle = idle_same c past (with_turn at es past) (λ slot. field_other reads_call (call_after slot) None c at es past other) (field_other reads_life life_after (first_life c) c at es past other)
+          (λ r k. subst (λ (m : List (Resource × Patch)). HasChange (patch_at r m)) (sym (field_other reads_patches patches_after [] c at es past other)) k) b.idle;
       handles = λ h. ap (file_of h) (field_other reads_handles handles_after [] c at es past other) ∙ b.handles h ∙ sym (file_other c h at es past other);
       calm = λ x i q. b.calm x (was x i) (sym (import_other reads_standing standing_after Serving c x.target.0 at es past other) ∙ q);
     }
@@ -75,6 +80,7 @@ pub record Stands (head : table.Head) (past : List Line) : Type 0 where
   pub noted : Noted (covered_head head) past
   pub there : AllThere head.osts past
   pub between : (c : ℕ) → Between c past
+  pub awaits : (c : ℕ) → Awaits c past
   pub serves : (t : ℕ) → ServesBetween head past t
   pub ready : (c t : ℕ) → is_welcome c t past ≡ false
 
@@ -93,15 +99,14 @@ client_stands : (head : table.Head) (past : List Line) (stamp : Stamp) (c : ℕ)
     → AllCovered (with_turn (turn stamp (Client c)) (client.row (limits_of head) (turn stamp (Client c)) event (client_of head c past)) past)
     → Stands head (with_turn (turn stamp (Client c)) (client.row (limits_of head) (turn stamp (Client c)) event (client_of head c past)) past)
 client_stands head past stamp c event s later meets covered =
-    let alive = lives head past c event meets in
-    let ok = client_ok head c stamp past event (record { grown = s.grown; covered = (covered_turn at es past covered).1; settled = s.settled; later = later; closed = s.closed; noted = s.noted; there = s.there; alive = alive; between = s.between c; ready = s.ready c }) meets covered in
     record {
       grown = ok.grown;
       settled = ok.settled;
       closed = closed_row (covered_head head) (limits_of head) past stamp c event (client_of head c past) refl later s.closed ok.grown;
       noted = ok.noted;
       there = there_turn head.osts at es past tt s.there;
-      between = λ d. by d (nat_eq d c) refl ok.between;
+      between = λ d. by d (nat_eq d c) refl;
+      awaits = λ d. waits d (nat_eq d c) refl;
       serves = λ t. serves_client head past stamp c es t (s.serves t);
       ready = welcome_client head past stamp c event s.ready s.there later ok.grown;
     }
@@ -112,9 +117,31 @@ client_stands head past stamp c event s later meets covered =
     es : List Entry
     es = client.row (limits_of head) at event (client_of head c past)
 
-    by : (d : ℕ) (b : Bool) → nat_eq d c ≡ b → Between c (with_turn at es past) → Between d (with_turn at es past)
-    by d true e k = subst (λ (u : ℕ). Between u (with_turn at es past)) (sym (eqb-true d c e)) k
-    by d false e k = between_other d at es past e (s.between d)
+    ok : Closed head c stamp (with_turn at es past)
+    ok =
+        client_ok head c stamp past event
+        (record {
+          grown = s.grown;
+          covered = (covered_turn at es past covered).1;
+          settled = s.settled;
+          later = later;
+          closed = s.closed;
+          noted = s.noted;
+          there = s.there;
+          alive = lives head past c event meets;
+          between = s.between c;
+          awaits = s.awaits c;
+          ready = s.ready c;
+        })
+        meets covered
+
+    by : (d : ℕ) (b : Bool) → nat_eq d c ≡ b → Between d (with_turn at es past)
+    by d true e = subst (λ (u : ℕ). Between u (with_turn at es past)) (sym (eqb-true d c e)) ok.between
+    by d false e = between_other d at es past e (s.between d)
+
+    waits : (d : ℕ) (b : Bool) → nat_eq d c ≡ b → Awaits d (with_turn at es past)
+    waits d true e = subst (λ (u : ℕ). Awaits u (with_turn at es past)) (sym (eqb-true d c e)) ok.awaits
+    waits d false e = awaits_other (covered_head head) d at es past e ok.grown (s.awaits d)
 
 row_stands : (head : table.Head) (past : List Line) (stamp : Stamp) (node : Node) (es : List Entry) → Stands head past → Later past (turn stamp node) → IsRow head past (turn stamp node) es → AllCovered (with_turn (turn stamp node) es past)
     → Stands head (with_turn (turn stamp node) es past)
@@ -128,13 +155,15 @@ row_stands head past stamp (Target t) es s later r covered =
     let at = turn stamp (Target t) in
     let fs = of_target head past stamp t r.event r.fails in
     let ok = target_ok head past stamp t r.event r.fails s.grown s.settled s.noted s.serves later r.meets r.numbers (subst (λ (gs : List Entry). AllCovered (with_turn at gs past)) r.is covered) in
+    let grows = turn_grows (covered_head head) past at fs s.grown later s.closed ok.row in
     subst (λ (gs : List Entry). Stands head (with_turn at gs past)) (sym r.is) (record {
-      grown = turn_grows (covered_head head) past at fs s.grown later s.closed ok.row;
+      grown = grows;
       settled = settled_after past at fs ok.row.paid;
       closed = closed_target stamp t fs past s.closed;
       noted = noted_after (covered_head head) past at fs ok.row;
       there = there_turn head.osts at fs past (target_there head past t r.event r.meets) s.there;
       between = λ c. between_other c at fs past refl (s.between c);
+      awaits = λ c. awaits_other (covered_head head) c at fs past refl grows (s.awaits c);
       serves = ok.serves;
       ready = λ c u. welcome_other c u at fs past refl ∙ s.ready c u;
     })
@@ -150,6 +179,7 @@ stands head [] run covered =
       noted = record { marked = λ t. refl; told = λ t who k. k; shown = λ t. refl };
       there = tt;
       between = λ c. record { idle = λ slot. tt; handles = λ h. refl; calm = λ x i q. absurd i };
+      awaits = λ c. awaits_start c;
       serves = λ t. serves_start head t;
       ready = λ c t. refl;
     }

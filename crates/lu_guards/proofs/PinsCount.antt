@@ -12,11 +12,10 @@ use Rattle.lu_held.specs.declared.names.LockName.{LockName}
 use Rattle.lu_held.specs.Names.{same_name}
 use Rattle.lu_held.specs.Locks.{name_of, is_named, after}
 use Rattle.lu_held.specs.Held.{changed, used, without, unmarked}
-use Rattle.lu_words.specs.Carried.{Work, Stage, Plain, Bad, Enqueued, Came, Sizes, Running}
+use Rattle.lu_words.specs.Carried.{Work, Stage, Plain, Bad, Looks, Enqueued, Waits, Came, Forgotten, Gets, Flushing, Sizes, Running}
 use Rattle.lu_words.specs.Words.{Line}
 use Rattle.lu_client_rows.specs.Advances.{name_under}
 use Rattle.lu_covered.specs.Calls.{call_at}
-use Rattle.lu_covered.specs.Covered.{IsReading}
 use Rattle.lu_guards.proofs.Guards.{HasRange, In}
 use Rattle.lu_guards.proofs.Lists.{in_left, in_right, in_filtered}
 use Rattle.lu_guards.proofs.ClientLocks.{names_same, own_name, in_mapped, changed_only, unmarked_only, without_only, without_other}
@@ -203,13 +202,21 @@ CameOk held names w l =
     (wanted : Use) (left : List Use) → w.left ≡ wanted ∷ left
     → ((h : HeldLock) × In h held × (h.target.0 ≡ wanted.target.0) × (h.lock ≡ l)) × (l.resource ≡ wanted.resource) × (count_of (name_under wanted l) names ≡ 0)
 
+-- there is room for the rest of a work
+abbrev pub RoomFor : List HeldLock → List LockName → Work → Type 0
+RoomFor held names w = Distinct w.left × Room held names w.left
+
 abbrev pub RoomOf : List HeldLock → List LockName → Stage → Type 0
 RoomOf held names Plain = names ≡ []
 RoomOf held names Bad = Unit {0}
-RoomOf held names (Sizes w) = Unit {0}
-RoomOf held names (Enqueued w) = Distinct w.left × Room held names w.left
-RoomOf held names (Came w l) = IsReading w.kind × Distinct w.left × Room held names w.left × CameOk held names w l
-RoomOf held names _ = ⊥
+RoomOf held names (Looks w) = RoomFor held names w
+RoomOf held names (Enqueued w) = RoomFor held names w
+RoomOf held names (Waits w target l marked) = RoomFor held names w
+RoomOf held names (Came w l) = RoomFor held names w × CameOk held names w l
+RoomOf held names (Forgotten w) = RoomFor held names w
+RoomOf held names (Gets w) = RoomFor held names w
+RoomOf held names (Flushing stripe) = Unit {0}
+RoomOf held names (Sizes w) = RoomFor held names w
 
 abbrev pub CallFit : List HeldLock → Option Running → Type 0
 CallFit held None = Unit {0}
@@ -246,18 +253,23 @@ unmarked_into t hs h i =
     let b = nat_eq h.target.0 t in
     (if b then after change.Unmark h else h, in_mapped (λ (x : HeldLock). if nat_eq x.target.0 t then after change.Unmark x else x) h hs i, if_target b change.Unmark h, if_lock b change.Unmark h)
 
+work_from : (now before : List HeldLock) → From now before → (names : List LockName) (w : Work) → RoomFor before names w → RoomFor now names w
+work_from now before f names w room = (room.0, room_from now before f names w.left room.1)
+
 pub stage_from : (now before : List HeldLock) → From now before → Into before now → (names : List LockName) (stage : Stage) → RoomOf before names stage → RoomOf now names stage
 stage_from now before f t names Plain room = room
 stage_from now before f t names Bad room = room
-stage_from now before f t names (Sizes w) room = room
-stage_from now before f t names (Enqueued w) room = (room.0, room_from now before f names w.left room.1)
+stage_from now before f t names (Looks w) room = work_from now before f names w room
+stage_from now before f t names (Enqueued w) room = work_from now before f names w room
+stage_from now before f t names (Waits w target l marked) room = work_from now before f names w room
 stage_from now before f t names (Came w l) room = (
-  room.0,
-  room.1,
-  room_from now before f names w.left room.2,
-  λ wanted left e. let r = room.3 wanted left e in let k = t r.0.0 r.0.1 in ((k.0, k.1, ap (λ (u : _). u.0) k.2 ∙ r.0.2, k.3 ∙ r.0.3), r.1, r.2),
+  work_from now before f names w room.0,
+  λ wanted left e. let r = room.1 wanted left e in let k = t r.0.0 r.0.1 in ((k.0, k.1, ap (λ (u : _). u.0) k.2 ∙ r.0.2, k.3 ∙ r.0.3), r.1, r.2),
 )
-stage_from now before f t names stage room = absurd room
+stage_from now before f t names (Forgotten w) room = work_from now before f names w room
+stage_from now before f t names (Gets w) room = work_from now before f names w room
+stage_from now before f t names (Flushing stripe) room = room
+stage_from now before f t names (Sizes w) room = work_from now before f names w room
 
 pub call_from : (now before : List HeldLock) → From now before → Into before now → (x : Option Running) → CallFit before x → CallFit now x
 call_from now before f t None k = tt

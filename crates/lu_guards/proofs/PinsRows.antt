@@ -23,9 +23,10 @@ use Rattle.lu_held.specs.declared.names.LockName.{LockName}
 use Rattle.lu_held.specs.Names.{same_name}
 use Rattle.lu_held.specs.Locks.{named, name_of, is_named}
 use Rattle.lu_held.specs.Held.{serving, changed}
+use Rattle.lu_words.specs.declared.changes.Flush.TheVariants.{Cut, Put}
 use Rattle.lu_words.specs.declared.uses.Using.{Using}
-use Rattle.lu_words.specs.Carried.{Kind, Narrow, Wide, Writes, Cuts, Stats, Glimpses, Work, Enqueued, Running}
-use Rattle.lu_words.specs.Words.{Entry, Stands, Pins, Line, line, with_turn}
+use Rattle.lu_words.specs.Carried.{Kind, Narrow, Wide, Writes, Cuts, Stats, Glimpses, Work, Enqueued, Gets, Running}
+use Rattle.lu_words.specs.Words.{Entry, Stands, Pins, Changes, Shows, Line, line, with_turn}
 use Rattle.lu_client_rows.specs.Advances.{at_stage, pinned, unpins, tells, name_under, using, Next, takes_up, looks_on, looks, comes, gets, widened, widens, reads_wide, reads_narrow, writes, cuts, acts}
 use Rattle.lu_client_rows.specs.Caches.{held_after, held_at}
 use Rattle.lu_client_rows.specs.Known as known
@@ -33,9 +34,8 @@ use Rattle.lu_client_rows.specs.Known.{Known, with_name, names_of}
 use Rattle.lu_client_rows.specs.Looks.{Page, missing, content, file_size, has_reached}
 use Rattle.lu_client_rows.specs.Starts.{looks_at, comes_at, work_on, pins, with_pins, tells_known, stats}
 use Rattle.lu_client_rows.specs.States.{Store, store_after, store_turn}
-use Rattle.lu_client_rows.specs.Stripes.{below_on, stripes, object}
+use Rattle.lu_client_rows.specs.Stripes.{below_on, bytes_on, stripes, object}
 use Rattle.lu_client_rows.specs.Wants.{want, wants_run, wants_rest, wants_cut, wants_of}
-use Rattle.lu_covered.specs.Covered.{IsReading}
 use Rattle.lu_table.specs.Heads as table
 use Rattle.lu_guards.proofs.Guards.{In}
 use Rattle.lu_guards.proofs.Lists.{self, in_append, turn, turn_more}
@@ -47,7 +47,7 @@ use Rattle.lu_guards.proofs.ClientRests.{held_line}
 use Rattle.lu_guards.proofs.ClientKnown.{AllUsable, names_in}
 use Rattle.lu_guards.proofs.ClientCalls.{covered_right}
 use Rattle.lu_guards.proofs.PinsCount.{one_if, count_of, AllNamed, count_more, not_counted, Into, into_names, same_names, changed_from, changed_into, Room, Distinct, CameOk, room_from}
-use Rattle.lu_guards.proofs.PinsSteps.{Fit, Mid, fit_queues, mid_pin, mid_unpins, mid_stands, tells_fit}
+use Rattle.lu_guards.proofs.PinsSteps.{Fit, Mid, fit_queues, mid_pin, mid_unpins, mid_stands, mid_quiet, tells_fit}
 
 -- ---- names of locks on names, each once
 
@@ -211,8 +211,9 @@ module _ (head : table.Head) (c : ℕ) (stamp : Stamp) where
 
   -- ---- a lock is used
 
+  -- once nothing is left to be locked
   abbrev NextFit : ℕ → Next → Type 0
-  NextFit slot next = (r : Running) (w : Work) (s : Store) (p : List Line) → s.held ≡ held_at c p → Mid c slot r.pins p → Going (next r w s) p
+  NextFit slot next = (r : Running) (w : Work) (s : Store) (p : List Line) → w.left ≡ [] → s.held ≡ held_at c p → Mid c slot r.pins p → Going (next r w s) p
 
   -- it lies on none of the others
   pinned_room : (p : List Line) (names left : _) (n : LockName) (h : HeldLock) (wanted : Use) → Once (held_at c p) → Room (held_at c p) names left → In h (held_at c p) → name_of h ≡ n → h.lock.resource ≡ wanted.resource
@@ -242,10 +243,10 @@ module _ (head : table.Head) (c : ℕ) (stamp : Stamp) where
   takes_fit : (slot : ℕ) (next : Next) (wanted : Use) (l : Lock) (left : List Use) (r : Running) (w : Work) (s : Store) (p : List Line) → s.held ≡ held_at c p → Mid c slot r.pins p
       → (h : HeldLock) → In h (held_at c p) → h.target.0 ≡ wanted.target.0 → h.lock ≡ l → l.resource ≡ wanted.resource → count_of (name_under wanted l) r.pins ≡ 0 → Room (held_at c p) r.pins left
       → ((y : Use) → In y left → wanted.resource ≡ y.resource → ⊥)
-      → ((r : Running) (w : Work) (s : Store) (p : List Line) → s.held ≡ held_at c p → Mid c slot r.pins p → Room (held_at c p) r.pins left → Going (next r w s) p)
+      → ((r : Running) (w : Work) (s : Store) (p : List Line) → w.left ≡ left → s.held ≡ held_at c p → Mid c slot r.pins p → Room (held_at c p) r.pins left → Going (next r w s) p)
       → Going (takes_up slot wanted l left next r w s) p
   takes_fit slot next wanted l left r w s p same k h i target lock object none room apart more covered =
-      more (pinned name r) (using wanted l left w) (store_after s (Pins name)) (line at (Pins name) ∷ p) (held_now s (Pins name) p same)
+      more (pinned name r) (using wanted l left w) (store_after s (Pins name)) (line at (Pins name) ∷ p) refl (held_now s (Pins name) p same)
       (mid_pin head c stamp slot r.pins name p k (h, i, ap (λ (m : LockName). is_named m h) (sym so) ∙ own_name (name_of h)) none)
       (pinned_room p r.pins left name h wanted k.once room i so (ap (λ (x : Lock). x.resource) lock ∙ object) apart)
       covered.1
@@ -256,14 +257,14 @@ module _ (head : table.Head) (c : ℕ) (stamp : Stamp) where
       so : name_of h ≡ name
       so = ap (λ (t : ℕ). named (record { 0 = t }) h.lock.cookie) target ∙ ap (λ (x : Lock). named wanted.target x.cookie) lock
 
-  looks_fit : (slot : ℕ) (next : Next) → NextFit slot next → (left : List Use) → Distinct left → (r : Running) (w : Work) (s : Store) (p : List Line) → s.held ≡ held_at c p → Mid c slot r.pins p
+  looks_fit : (slot : ℕ) (next : Next) → NextFit slot next → (left : List Use) → Distinct left → (r : Running) (w : Work) (s : Store) (p : List Line) → w.left ≡ left → s.held ≡ held_at c p → Mid c slot r.pins p
       → Room (held_at c p) r.pins left → Going (looks slot next left r w s) p
-  looks_fit slot next ends [] d r w s p same k room = ends r w s p same k
-  looks_fit slot next ends (wanted ∷ left) d r w s p same k room =
-      by (serving wanted s.held) refl (λ r w s p same k room. looks_fit slot next ends left d.2 r w s p same k room)
+  looks_fit slot next ends [] d r w s p none same k room = ends r w s p none same k
+  looks_fit slot next ends (wanted ∷ left) d r w s p first same k room =
+      by (serving wanted s.held) refl (λ r w s p e same k room. looks_fit slot next ends left d.2 r w s p e same k room)
     where
       by : (o : Option HeldLock) → serving wanted s.held ≡ o
-          → ((r : Running) (w : Work) (s : Store) (p : List Line) → s.held ≡ held_at c p → Mid c slot r.pins p → Room (held_at c p) r.pins left → Going (looks slot next left r w s) p)
+          → ((r : Running) (w : Work) (s : Store) (p : List Line) → w.left ≡ left → s.held ≡ held_at c p → Mid c slot r.pins p → Room (held_at c p) r.pins left → Going (looks slot next left r w s) p)
           → Going (looks_on slot (λ h. takes_up slot wanted h.lock left (looks slot next left) r w s) wanted left r w o) p
       by None e more = λ covered.
           let now = at_stage r (Enqueued (record w { left = wanted ∷ left })) in
@@ -278,64 +279,83 @@ module _ (head : table.Head) (c : ℕ) (stamp : Stamp) where
 
   -- ---- all are in use
 
-  gets_not : (slot : ℕ) (g : Page) (r : Running) (w : Work) → EntriesCovered (gets slot g r w) → ⊥
-  gets_not slot g r w covered = covered.0
+  gets_fit : (slot : ℕ) (g : Page) (r : Running) (w : Work) (q : List Line) → w.left ≡ [] → Mid c slot r.pins q → Going (gets slot g r w) q
+  gets_fit slot g r w q none k covered =
+      fit_queues head c stamp (line at (Stands slot (at_stage r (Gets w))) ∷ q) _ _
+      (mid_stands head c stamp slot r.pins (at_stage r (Gets w)) q k refl (subst (λ (left : List Use). Distinct left × Room (held_at c q) r.pins left) (sym none) (tt, λ h i x j l. absurd j)))
 
-  page_or : (slot : ℕ) (r : Running) (w : Work) (a : Answer) (q : List Line) → Mid c slot r.pins q → (o : Option Page) → Going (elim o [ Some g ↦ gets slot g r w | None ↦ tells slot r at a (Some w) ]) q
-  page_or slot r w a q k (Some g) covered = absurd (gets_not slot g r w covered)
-  page_or slot r w a q k None covered = tells_fit head c stamp slot r at a (Some w) q k
+  page_or : (slot : ℕ) (r : Running) (w : Work) (a : Answer) (q : List Line) → w.left ≡ [] → Mid c slot r.pins q → (o : Option Page) → Going (elim o [ Some g ↦ gets slot g r w | None ↦ tells slot r at a (Some w) ]) q
+  page_or slot r w a q none k (Some g) = gets_fit slot g r w q none k
+  page_or slot r w a q none k None = λ covered. tells_fit head c stamp slot r at a (Some w) q k
 
   wide_fit : (slot p n : ℕ) → NextFit slot (reads_wide at slot p n)
-  wide_fit slot p n r w s q same k = page_or slot r w (answer.Content (content w.layout w.fid s p (min n (file_size w.layout (stripes w.layout) w.used s - p)))) q k (missing w.layout p (p + n) s w.used)
+  wide_fit slot p n r w s q none same k =
+      page_or slot r w (answer.Content (content w.layout w.fid s p (min n (file_size w.layout (stripes w.layout) w.used s - p)))) q none k (missing w.layout p (p + n) s w.used)
 
   widens_fit : (slot p n : ℕ) → NextFit slot (widens at slot p n)
-  widens_fit slot p n r w s q same k covered =
+  widens_fit slot p n r w s q none same k covered =
       let wide = widened p n w in
       let r0 = record r { pins = [] } in
       let q1 = with_turn at (unpins r.pins) q in
       let s1 = store_turn s (unpins r.pins) in
       let es = looks slot (reads_wide at slot p n) wide.left r0 wide s1 in
       subst (Fit c) (sym (turn_more at (unpins r.pins) es q))
-      (looks_fit slot (reads_wide at slot p n) (wide_fit slot p n) wide.left (distinct_wants w.layout w.fid (Wide p n)) r0 wide s1 q1 (held_turn (unpins r.pins) s q same) (mid_unpins head c stamp slot r.pins q k)
+      (looks_fit slot (reads_wide at slot p n) (wide_fit slot p n) wide.left (distinct_wants w.layout w.fid (Wide p n)) r0 wide s1 q1 refl (held_turn (unpins r.pins) s q same) (mid_unpins head c stamp slot r.pins q k)
       (λ h i x j l. refl) (covered_right (unpins r.pins) es covered))
 
   narrow_fit : (slot p n : ℕ) → NextFit slot (reads_narrow at slot p n)
-  narrow_fit slot p n r w s q same k = by (missing w.layout p (p + n) s w.used)
+  narrow_fit slot p n r w s q none same k = by (missing w.layout p (p + n) s w.used)
     where
       told : Answer
       told = answer.Content (content w.layout w.fid s p n)
 
       reach : (b : Bool) → Going (if b then tells slot r at told (Some w) else widens at slot p n r w s) q
       reach true covered = tells_fit head c stamp slot r at told (Some w) q k
-      reach false covered = widens_fit slot p n r w s q same k covered
+      reach false covered = widens_fit slot p n r w s q none same k covered
 
       by : (o : Option Page) → Going (elim o [ Some g ↦ gets slot g r w | None ↦ if has_reached w.layout (p + n - 1) w.used s then tells slot r at told (Some w) else widens at slot p n r w s ]) q
-      by (Some g) covered = absurd (gets_not slot g r w covered)
+      by (Some g) covered = gets_fit slot g r w q none k covered
       by None covered = reach (has_reached w.layout (p + n - 1) w.used s) covered
 
+  -- changes leave the pins
+  writes_mid : (slot : ℕ) (names : List LockName) (l : Raid0) (p : ℕ) (bs : List ℕ) (us : List Using) (q : List Line) → Mid c slot names q → Mid c slot names (with_turn at (writes l p bs us) q)
+  writes_mid slot names l p bs [] q k = k
+  writes_mid slot names l p bs (u ∷ us) q k =
+      let first = below_on l u.want.resource.stripe p in
+      let piece = bytes_on l u.want.resource.stripe p bs in
+      let change = Changes u.want.resource (Put first piece) in
+      let show = Shows u.want.resource u.lock.cookie (first + length piece - 1) in
+      writes_mid slot names l p bs us (line at show ∷ line at change ∷ q) (mid_quiet head c stamp slot names (line at change ∷ q) show refl refl (mid_quiet head c stamp slot names q change refl refl k))
+
+  cuts_mid : (slot : ℕ) (names : List LockName) (l : Raid0) (n : ℕ) (us : List Using) (q : List Line) → Mid c slot names q → Mid c slot names (with_turn at (cuts l n us) q)
+  cuts_mid slot names l n [] q k = k
+  cuts_mid slot names l n (u ∷ us) q k =
+      let change = Changes u.want.resource (Cut (below_on l u.want.resource.stripe n)) in
+      cuts_mid slot names l n us (line at change ∷ q) (mid_quiet head c stamp slot names q change refl refl k)
+
   writes_fit : (slot : ℕ) (l : Raid0) (p : ℕ) (bs : List ℕ) (us : List Using) (r : Running) (w : Work) (q : List Line) → Mid c slot r.pins q → Going (writes l p bs us ++ tells slot r at answer.Done (Some w)) q
-  writes_fit slot l p bs [] r w q k covered = tells_fit head c stamp slot r at answer.Done (Some w) q k
-  writes_fit slot l p bs (u ∷ us) r w q k covered = absurd covered.0
+  writes_fit slot l p bs us r w q k covered =
+      subst (Fit c) (sym (turn_more at (writes l p bs us) (tells slot r at answer.Done (Some w)) q)) (tells_fit head c stamp slot r at answer.Done (Some w) (with_turn at (writes l p bs us) q) (writes_mid slot r.pins l p bs us q k))
 
   cuts_fit : (slot : ℕ) (l : Raid0) (n : ℕ) (us : List Using) (r : Running) (w : Work) (q : List Line) → Mid c slot r.pins q → Going (cuts l n us ++ tells slot r at answer.Done (Some w)) q
-  cuts_fit slot l n [] r w q k covered = tells_fit head c stamp slot r at answer.Done (Some w) q k
-  cuts_fit slot l n (u ∷ us) r w q k covered = absurd covered.0
+  cuts_fit slot l n us r w q k covered =
+      subst (Fit c) (sym (turn_more at (cuts l n us) (tells slot r at answer.Done (Some w)) q)) (tells_fit head c stamp slot r at answer.Done (Some w) (with_turn at (cuts l n us) q) (cuts_mid slot r.pins l n us q k))
 
   acts_fit : (slot : ℕ) (kind : Kind) → IsWork kind → NextFit slot (acts at slot kind)
-  acts_fit slot (Narrow p n) i r w s q same k = narrow_fit slot p n r w s q same k
-  acts_fit slot (Wide p n) i r w s q same k = wide_fit slot p n r w s q same k
-  acts_fit slot (Writes p bs) i r w s q same k = writes_fit slot w.layout p bs w.used r w q k
-  acts_fit slot (Cuts n) i r w s q same k = cuts_fit slot w.layout n w.used r w q k
-  acts_fit slot (Stats mode links) i r w s q same k = λ covered. tells_fit head c stamp slot r at _ (Some w) q k
-  acts_fit slot (Glimpses sizes) i r w s q same k = absurd i
+  acts_fit slot (Narrow p n) i r w s q none same k = narrow_fit slot p n r w s q none same k
+  acts_fit slot (Wide p n) i r w s q none same k = wide_fit slot p n r w s q none same k
+  acts_fit slot (Writes p bs) i r w s q none same k = writes_fit slot w.layout p bs w.used r w q k
+  acts_fit slot (Cuts n) i r w s q none same k = cuts_fit slot w.layout n w.used r w q k
+  acts_fit slot (Stats mode links) i r w s q none same k = λ covered. tells_fit head c stamp slot r at _ (Some w) q k
+  acts_fit slot (Glimpses sizes) i r w s q none same k = absurd i
 
   pub looks_at_fit : (slot : ℕ) (kind : Kind) → IsWork kind → (r : Running) (w : Work) (s : Store) (p : List Line) → s.held ≡ held_at c p → Mid c slot r.pins p → Distinct w.left → Room (held_at c p) r.pins w.left
       → Going (looks_at at slot kind r w s) p
-  looks_at_fit slot (Narrow o n) i r w s p same k d room = looks_fit slot (acts at slot (Narrow o n)) (acts_fit slot (Narrow o n) i) w.left d r w s p same k room
-  looks_at_fit slot (Wide o n) i r w s p same k d room = looks_fit slot (acts at slot (Wide o n)) (acts_fit slot (Wide o n) i) w.left d r w s p same k room
-  looks_at_fit slot (Writes o bs) i r w s p same k d room = looks_fit slot (acts at slot (Writes o bs)) (acts_fit slot (Writes o bs) i) w.left d r w s p same k room
-  looks_at_fit slot (Cuts n) i r w s p same k d room = looks_fit slot (acts at slot (Cuts n)) (acts_fit slot (Cuts n) i) w.left d r w s p same k room
-  looks_at_fit slot (Stats mode links) i r w s p same k d room = looks_fit slot (acts at slot (Stats mode links)) (acts_fit slot (Stats mode links) i) w.left d r w s p same k room
+  looks_at_fit slot (Narrow o n) i r w s p same k d room = looks_fit slot (acts at slot (Narrow o n)) (acts_fit slot (Narrow o n) i) w.left d r w s p refl same k room
+  looks_at_fit slot (Wide o n) i r w s p same k d room = looks_fit slot (acts at slot (Wide o n)) (acts_fit slot (Wide o n) i) w.left d r w s p refl same k room
+  looks_at_fit slot (Writes o bs) i r w s p same k d room = looks_fit slot (acts at slot (Writes o bs)) (acts_fit slot (Writes o bs) i) w.left d r w s p refl same k room
+  looks_at_fit slot (Cuts n) i r w s p same k d room = looks_fit slot (acts at slot (Cuts n)) (acts_fit slot (Cuts n) i) w.left d r w s p refl same k room
+  looks_at_fit slot (Stats mode links) i r w s p same k d room = looks_fit slot (acts at slot (Stats mode links)) (acts_fit slot (Stats mode links) i) w.left d r w s p refl same k room
   looks_at_fit slot (Glimpses sizes) i r w s p same k d room = absurd i
 
   comes_fit : (slot : ℕ) (kind : Kind) → IsWork kind → (l : Lock) (left : List Use) (r : Running) (w : Work) (s : Store) (p : List Line) → s.held ≡ held_at c p → Fit c p → Mid c slot r.pins p → Distinct left
@@ -347,15 +367,17 @@ module _ (head : table.Head) (c : ℕ) (stamp : Stamp) where
   comes_fit slot kind i l (wanted ∷ left) r w s p same fit k d room came =
       let m = came wanted left refl in
       takes_fit slot (looks slot (acts at slot kind) left) wanted l left r w s p same k m.0.0 m.0.1 m.0.2 m.0.3 m.1 m.2 (λ g j x y z. room g j x (inr y) z) d.1
-      (λ r w s p same k room. looks_fit slot (acts at slot kind) (acts_fit slot kind i) left d.2 r w s p same k room)
+      (λ r w s p e same k room. looks_fit slot (acts at slot kind) (acts_fit slot kind i) left d.2 r w s p e same k room)
 
-  pub comes_at_fit : (slot : ℕ) (kind : Kind) → IsReading kind → (l : Lock) (r : Running) (w : Work) (s : Store) (p : List Line) → s.held ≡ held_at c p → Fit c p → Mid c slot r.pins p → Distinct w.left
+  pub comes_at_fit : (slot : ℕ) (kind : Kind) → IsWork kind → (l : Lock) (r : Running) (w : Work) (s : Store) (p : List Line) → s.held ≡ held_at c p → Fit c p → Mid c slot r.pins p → Distinct w.left
       → Room (held_at c p) r.pins w.left
       → CameOk (held_at c p) r.pins w l → Going (comes_at at slot kind r w s l) p
+  comes_at_fit slot (Writes o bs) i l r w s p same fit k d room came = comes_fit slot (Writes o bs) tt l w.left r w s p same fit k d room came
+  comes_at_fit slot (Cuts n) i l r w s p same fit k d room came = comes_fit slot (Cuts n) tt l w.left r w s p same fit k d room came
   comes_at_fit slot (Narrow o n) i l r w s p same fit k d room came = comes_fit slot (Narrow o n) tt l w.left r w s p same fit k d room came
   comes_at_fit slot (Wide o n) i l r w s p same fit k d room came = comes_fit slot (Wide o n) tt l w.left r w s p same fit k d room came
   comes_at_fit slot (Stats mode links) i l r w s p same fit k d room came = comes_fit slot (Stats mode links) tt l w.left r w s p same fit k d room came
-  comes_at_fit slot kind i l r w s p same fit k d room came = absurd i
+  comes_at_fit slot (Glimpses sizes) i l r w s p same fit k d room came = absurd i
 
   -- ---- locks on names are pinned
 

@@ -9,6 +9,7 @@ use Rattle.lu_base.specs.declared.ids.Node.TheVariants.{Client, Target}
 use Rattle.lu_base.specs.declared.ids.Stamp.{Stamp}
 use Rattle.lu_base.specs.declared.ids.Who.{Who}
 use Rattle.lu_base.specs.declared.locks.Lock.{Lock}
+use Rattle.lu_base.specs.declared.locks.Resource.{Resource}
 use Rattle.lu_msg.specs.declared.answers.Answer.{Answer}
 use Rattle.lu_msg.specs.declared.answers.Answer.TheVariants as answer
 use Rattle.lu_msg.specs.declared.calls.Call.{Call}
@@ -19,16 +20,15 @@ use Rattle.lu_msg.specs.declared.operations.Op.TheVariants as op
 use Rattle.lu_held.specs.declared.locks.HeldLock.{HeldLock}
 use Rattle.lu_held.specs.declared.locks.Use.{Use}
 use Rattle.lu_held.specs.declared.names.LockName.{LockName}
-use Rattle.lu_held.specs.Locks.{named, name_of, is_named, is_free}
+use Rattle.lu_held.specs.Locks.{same_resource, named, name_of, is_named, is_free}
 use Rattle.lu_held.specs.Held.{serving, without, in_order}
 use Rattle.lu_words.specs.declared.changes.Flush.{Flush}
-use Rattle.lu_words.specs.Carried.{HandleFile, Asking, Unasked, Asked, Answered, Kind, Narrow, Writes, Cuts, Glimpses, Work, Stage, Plain, Bad, Enqueued, Came, Flushing, Sizes, Queued, Flight, Running}
-use Rattle.lu_words.specs.Words.{Entry, Send, Drop, Queues, Stands, Binds, Line, line, with_turn}
-use Rattle.lu_words.specs.Fields.{on}
+use Rattle.lu_words.specs.Carried.{HandleFile, Asking, Unasked, Asked, Answered, Kind, Narrow, Wide, Writes, Cuts, Stats, Glimpses, Work, Stage, Plain, Bad, Looks, Enqueued, Waits, Came, Forgotten, Gets, Flushing, Sizes, Queued, Flight, Running}
+use Rattle.lu_words.specs.Words.{Entry, Begin, Send, Drop, Heard, Told, Queues, Stands, Binds, WritesBack, Line, line, with_turn}
 use Rattle.lu_client_rows.specs.Advances.{at_stage, asks_lock}
 use Rattle.lu_client_rows.specs.Caches.{held_at, patch_at}
-use Rattle.lu_client_rows.specs.Calls.{reads_call, call_after}
-use Rattle.lu_client_rows.specs.Glimpses.{sized, asks_size, glimpses_on, glimpses, glimpse_asks, glimpse_hears}
+use Rattle.lu_client_rows.specs.Calls.{asks_for, reads_call}
+use Rattle.lu_client_rows.specs.Glimpses.{sized, asks_size, glimpses_on, glimpses, glimpse_asks, glimpse_comes, glimpse_hears}
 use Rattle.lu_client_rows.specs.Imports.{Import, import_of, is_serving}
 use Rattle.lu_client_rows.specs.Known.{Notes, Known, KnownFile, Found, found_at_path, lookup_known, list_known, layout_known, directory_known, file_known, cookies_of_file}
 use Rattle.lu_client_rows.specs.Locks.{marks_of, trims, is_called, must_write, writes_next, writes_under, gives_up, visits, visits_all, locks_go, dirty_total}
@@ -36,11 +36,11 @@ use Rattle.lu_client_rows.specs.Looks.{size_under}
 use Rattle.lu_client_rows.specs.Patches.{Patch, in_flight}
 use Rattle.lu_client_rows.specs.Sending.{has_room, next_flight, flies, sends, sends_to, sends_all}
 use Rattle.lu_client_rows.specs.Slots.{goes_at, goes_on, goes, passes, all_slots, slots_go, is_free_close}
-use Rattle.lu_client_rows.specs.Starts.{sizes_heard, work_on, starts_known, stats_file, starts_stat, notes_of, starts_close, starts_bytes, starts_flush, starts_glimpse, names_op, starts_names, starts, answers, goes_plain, count_on}
+use Rattle.lu_client_rows.specs.Starts.{looks_at, comes_at, sizes_heard, work_on, starts_known, stats_file, starts_stat, notes_of, starts_close, starts_bytes, starts_flush, starts_glimpse, names_op, starts_names, starts, answers, goes_plain, count_on}
 use Rattle.lu_client_rows.specs.States.{Client as ClientState, Limits, Store, follow, turn as turn_of}
 use Rattle.lu_client_rows.specs.Stripes.{stripes, object}
 use Rattle.lu_client_rows.specs.Wants.{wants_of}
-use Rattle.lu_client_rows.specs.WriteBack.{flushes, flush_under, flush_from, is_clean}
+use Rattle.lu_client_rows.specs.WriteBack.{operation, writes_back, flushes, flush_under, flush_from, flushing, is_clean}
 use Rattle.lu_covered.specs.Calls.{call_at}
 use Rattle.lu_table.specs.Heads as table
 use Rattle.lu_table.specs.Runs.{limits_of, client_of}
@@ -49,12 +49,12 @@ use Rattle.lu_guards.proofs.Guards.{In}
 use Rattle.lu_guards.proofs.Lists.{self, turn, turn_more}
 use Rattle.lu_guards.proofs.Covers.{EntriesCovered}
 use Rattle.lu_guards.proofs.ClientLocks.{names_same, Once, once_filter, in_ordered, without_other}
-use Rattle.lu_guards.proofs.ClientRests.{held_line}
+use Rattle.lu_guards.proofs.ClientRests.{call_line, held_line}
 use Rattle.lu_guards.proofs.ClientKnown.{AllUsable, found_usable, lookup_usable, list_usable, layout_usable, directory_usable, file_usable, cookies_usable}
 use Rattle.lu_guards.proofs.ClientCalls.{AllSmall, on_small, covered_left, covered_right}
 use Rattle.lu_guards.proofs.PinsFit.{HasName}
-use Rattle.lu_guards.proofs.PinsCount.{count_of, sum_of, sum_has, count_in, names_on, pins_at, From, FromPinned, from_pinned, without_from, RoomOf, CallFit, room_from}
-use Rattle.lu_guards.proofs.PinsSteps.{Fit, Mid, AllLight, fit_step, fit_lights, fit_queues, fit_light, lights_more, mid_of, mid_stands, mid_quiet, tells_fit}
+use Rattle.lu_guards.proofs.PinsCount.{count_of, sum_of, sum_has, sum_less, count_in, names_on, pins_at, From, FromPinned, from_pinned, without_from, Room, Distinct, CameOk, RoomFor, RoomOf, CallFit, room_from}
+use Rattle.lu_guards.proofs.PinsSteps.{Fit, Mid, AllLight, fit_step, fit_lights, fit_queues, fit_light, lights_more, back_calls, mid_of, mid_stands, mid_quiet, tells_fit}
 use Rattle.lu_guards.proofs.PinsRows.{distinct_wants, IsWork, looks_at_fit, comes_at_fit, known_fit, stats_fit}
 
 -- the call hasn't just got a lock
@@ -82,38 +82,88 @@ module _ (head : table.Head) (c : ℕ) (stamp : Stamp) where
     mid : Mid c slot r.pins p
     mid = mid_of head c stamp slot r p small is fit
 
+    call_here : call_at c slot p ≡ Some r
+    call_here = is
+
     -- a glimpse
-    glimpses_fit : (left : List Use) (sizes : List ℕ) (w : Work) (s : Store) → Goes (glimpses at slot left sizes r w s) p
-    glimpses_fit [] sizes w s = λ covered. tells_fit head c stamp slot r at (answer.Sizes sizes) None p mid
-    glimpses_fit (wanted ∷ left) sizes w s = by (serving wanted s.held) (λ h. glimpses_fit left (sizes ++ size_under h.lock s ∷ []) w s)
+    later_room : (wanted : Use) (left : List Use) → Distinct (wanted ∷ left) × Room (held_at c p) r.pins (wanted ∷ left) → Distinct left × Room (held_at c p) r.pins left
+    later_room wanted left room = (room.0.2, λ h i x j l. room.1 h i x (inr j) l)
+
+    glimpses_fit : (left : List Use) (sizes : List ℕ) (w : Work) (s : Store) → Distinct left × Room (held_at c p) r.pins left → Goes (glimpses at slot left sizes r w s) p
+    glimpses_fit [] sizes w s room = λ covered. tells_fit head c stamp slot r at (answer.Sizes sizes) None p mid
+    glimpses_fit (wanted ∷ left) sizes w s room = by (serving wanted s.held) (λ h. glimpses_fit left (sizes ++ size_under h.lock s ∷ []) w s (later_room wanted left room))
       where
         by : (o : Option HeldLock) → ((h : HeldLock) → Goes (glimpses at slot left (sizes ++ size_under h.lock s ∷ []) r w s) p)
             → Goes (glimpses_on (λ h. glimpses at slot left (sizes ++ size_under h.lock s ∷ []) r w s) (asks_size slot wanted left sizes r w) o) p
         by None more = λ covered.
             let now = at_stage r (Sizes (sized (wanted ∷ left) sizes w)) in
-            fit_queues head c stamp (line at (Stands slot now) ∷ p) _ _ (mid_stands head c stamp slot r.pins now p mid refl tt)
+            fit_queues head c stamp (line at (Stands slot now) ∷ p) _ _ (mid_stands head c stamp slot r.pins now p mid refl room)
         by (Some h) more = more h
 
-    glimpse_asks_fit : (left : List Use) (sizes : List ℕ) (w : Work) (s : Store) → Goes (glimpse_asks at slot left sizes r w s) p
-    glimpse_asks_fit [] sizes w s = λ covered. fit
-    glimpse_asks_fit (wanted ∷ left) sizes w s = by (serving wanted s.held)
+    glimpse_asks_fit : (left : List Use) (sizes : List ℕ) (w : Work) (s : Store) → Distinct left × Room (held_at c p) r.pins left → Goes (glimpse_asks at slot left sizes r w s) p
+    glimpse_asks_fit [] sizes w s room = λ covered. fit
+    glimpse_asks_fit (wanted ∷ left) sizes w s room = by (serving wanted s.held)
       where
         by : (o : Option HeldLock) → Goes (glimpses_on (λ h. glimpses at slot left (sizes ++ size_under h.lock s ∷ []) r w s) (asks_lock slot wanted r (sized (wanted ∷ left) sizes w)) o) p
-        by None = λ covered. absurd covered.0.0
-        by (Some h) = glimpses_fit left (sizes ++ size_under h.lock s ∷ []) w s
+        by None = λ covered.
+            let now = at_stage r (Enqueued (sized (wanted ∷ left) sizes w)) in
+            fit_queues head c stamp (line at (Stands slot now) ∷ p) _ _ (mid_stands head c stamp slot r.pins now p mid refl room)
+        by (Some h) = glimpses_fit left (sizes ++ size_under h.lock s ∷ []) w s (later_room wanted left room)
 
-    hears_fit : (left : List Use) (sizes : List ℕ) (a : Answer) (w : Work) (s : Store) → Goes (glimpse_hears at slot left sizes a r w s) p
-    hears_fit [] sizes answer.Lock w s = glimpse_asks_fit [] sizes w s
-    hears_fit [] sizes a w s = λ covered. fit
-    hears_fit (wanted ∷ left) sizes (answer.Size size) w s = glimpses_fit left (sizes ++ size ∷ []) w s
-    hears_fit (wanted ∷ left) sizes answer.Lock w s = glimpse_asks_fit (wanted ∷ left) sizes w s
-    hears_fit (wanted ∷ left) sizes a w s = λ covered. fit
+    glimpse_comes_fit : (l : Lock) (left : List Use) (sizes : List ℕ) (w : Work) (s : Store) → Distinct left × Room (held_at c p) r.pins left → Goes (glimpse_comes at slot l left sizes r w s) p
+    glimpse_comes_fit l [] sizes w s room = λ covered. fit
+    glimpse_comes_fit l (wanted ∷ left) sizes w s room = glimpses_fit left (sizes ++ size_under l s ∷ []) w s (later_room wanted left room)
 
-    sizes_fit : (a : Asking) (kind : Kind) (w : Work) → Goes (sizes_heard at slot a kind r w k.store) p
-    sizes_fit (Answered t reply) (Glimpses sizes) w = hears_fit w.left sizes reply.answer w k.store
-    sizes_fit a kind w = λ covered. fit
+    hears_fit : (left : List Use) (sizes : List ℕ) (a : Answer) (w : Work) (s : Store) → Distinct left × Room (held_at c p) r.pins left → Goes (glimpse_hears at slot left sizes a r w s) p
+    hears_fit [] sizes answer.Lock w s room = glimpse_asks_fit [] sizes w s room
+    hears_fit [] sizes a w s room = λ covered. fit
+    hears_fit (wanted ∷ left) sizes (answer.Size size) w s room = glimpses_fit left (sizes ++ size ∷ []) w s (later_room wanted left room)
+    hears_fit (wanted ∷ left) sizes answer.Lock w s room = glimpse_asks_fit (wanted ∷ left) sizes w s room
+    hears_fit (wanted ∷ left) sizes a w s room = λ covered. fit
 
-    -- one that writes a file back, of which nothing is changed
+    sizes_fit : (a : Asking) (kind : Kind) (w : Work) → RoomFor (held_at c p) r.pins w → Goes (sizes_heard at slot a kind r w k.store) p
+    sizes_fit (Answered t reply) (Glimpses sizes) w room = hears_fit w.left sizes reply.answer w k.store room
+    sizes_fit a kind w room = λ covered. fit
+
+    looks_so : (kind : Kind) (w : Work) → RoomFor (held_at c p) r.pins w → Goes (looks_at at slot kind r w k.store) p
+    looks_so (Glimpses sizes) w room = glimpse_asks_fit w.left sizes w k.store room
+    looks_so (Narrow o n) w room = looks_at_fit head c stamp slot (Narrow o n) tt r w k.store p refl mid room.0 room.1
+    looks_so (Wide o n) w room = looks_at_fit head c stamp slot (Wide o n) tt r w k.store p refl mid room.0 room.1
+    looks_so (Writes o bs) w room = looks_at_fit head c stamp slot (Writes o bs) tt r w k.store p refl mid room.0 room.1
+    looks_so (Cuts n) w room = looks_at_fit head c stamp slot (Cuts n) tt r w k.store p refl mid room.0 room.1
+    looks_so (Stats mode links) w room = looks_at_fit head c stamp slot (Stats mode links) tt r w k.store p refl mid room.0 room.1
+
+    comes_so : (kind : Kind) (w : Work) (l : Lock) → RoomFor (held_at c p) r.pins w → CameOk (held_at c p) r.pins w l → Goes (comes_at at slot kind r w k.store l) p
+    comes_so (Glimpses sizes) w l room came = glimpse_comes_fit l w.left sizes w k.store room
+    comes_so (Narrow o n) w l room came = comes_at_fit head c stamp slot (Narrow o n) tt l r w k.store p refl fit mid room.0 room.1 came
+    comes_so (Wide o n) w l room came = comes_at_fit head c stamp slot (Wide o n) tt l r w k.store p refl fit mid room.0 room.1 came
+    comes_so (Writes o bs) w l room came = comes_at_fit head c stamp slot (Writes o bs) tt l r w k.store p refl fit mid room.0 room.1 came
+    comes_so (Cuts n) w l room came = comes_at_fit head c stamp slot (Cuts n) tt l r w k.store p refl fit mid room.0 room.1 came
+    comes_so (Stats mode links) w l room came = comes_at_fit head c stamp slot (Stats mode links) tt l r w k.store p refl fit mid room.0 room.1 came
+
+    -- one that writes a file back
+    flush_stands : (i : ℕ) (q : List Line) → Fit c q → call_at c slot q ≡ Some r → Fit c (line at (Stands slot (at_stage r (Flushing i))) ∷ q)
+    flush_stands i q f e = mid_stands head c stamp slot r.pins (at_stage r (Flushing i)) q (mid_of head c stamp slot r q small e f) refl tt
+
+    backs_stand : (i : ℕ) (resource : Resource) (patch : Patch) (hs : List HeldLock) → Fit c (with_turn at (flushes resource patch hs ++ Stands slot (at_stage r (Flushing i)) ∷ []) p)
+    backs_stand i resource patch [] = flush_stands i p fit is
+    backs_stand i resource patch (h ∷ hs) = by (same_resource h.lock.resource resource) (flush_under patch h.lock.ask.mode h.lock.ask.policy) (backs_stand i resource patch hs)
+      where
+        stands : List Entry
+        stands = Stands slot (at_stage r (Flushing i)) ∷ []
+
+        back : (change : Flush) → Fit c (with_turn at (writes_back h.target h.lock change ++ stands) p)
+        back change =
+            let q = with_turn at (writes_back h.target h.lock change) p in
+            flush_stands i q (fit_lights head c stamp (writes_back h.target h.lock change) p (tt, (tt, tt)) fit)
+            (back_calls head c stamp (line at (WritesBack h.lock.resource change) ∷ p) h.target.0 (operation h.lock.resource h.lock.cookie change) slot ∙ is)
+
+        by : (b : Bool) (o : Option Flush) → Fit c (with_turn at (flushes resource patch hs ++ stands) p)
+            → Fit c (with_turn at ((if b then elim o [ None ↦ flushes resource patch hs | Some change ↦ writes_back h.target h.lock change ] else flushes resource patch hs) ++ stands) p)
+        by true None more = more
+        by true (Some change) more = back change
+        by false o more = more
+
     flush_fit : (f : HandleFile) (is : List ℕ) (s : Store) → Goes (flush_from at slot r f is s) p
     flush_fit f [] s = λ covered. tells_fit head c stamp slot r at answer.Done None p mid
     flush_fit f (i ∷ is) s = by (in_flight patch) (is_clean patch) (flush_fit f is s)
@@ -125,9 +175,13 @@ module _ (head : table.Head) (c : ℕ) (stamp : Stamp) where
         stands = Stands slot (at_stage r (Flushing i)) ∷ []
 
         by : (u v : Bool) → Goes (flush_from at slot r f is s) p → Goes (if u then stands else if v then flush_from at slot r f is s else flushes (object f.fid i) patch (in_order s.held) ++ stands) p
-        by true v more = λ covered. absurd covered.0
+        by true v more = λ covered. flush_stands i p fit call_here
         by false true more = more
-        by false false more = λ covered. absurd (covered_right (flushes (object f.fid i) patch (in_order s.held)) stands covered).0
+        by false false more = λ covered. backs_stand i (object f.fid i) patch (in_order s.held)
+
+    flushing_fit : (i : ℕ) (f : Option HandleFile) → Goes (flushing at slot i r f k.store) p
+    flushing_fit i None = λ covered. fit
+    flushing_fit i (Some f) = flush_fit f (drop i (stripes f.layout)) k.store
 
     -- one that begins has pinned nothing
     module _ (none : r.pins ≡ []) where
@@ -174,7 +228,8 @@ module _ (head : table.Head) (c : ℕ) (stamp : Stamp) where
 
       glimpse_fit : (f : Option HandleFile) → Goes (starts_glimpse at slot r k.store f) p
       glimpse_fit None = λ covered. fit
-      glimpse_fit (Some f) = glimpses_fit (wants_of f.layout f.fid (Glimpses [])) [] (work_on f.fid f.layout (Glimpses [])) k.store
+      glimpse_fit (Some f) =
+          glimpses_fit (wants_of f.layout f.fid (Glimpses [])) [] (work_on f.fid f.layout (Glimpses [])) k.store (distinct_wants f.layout f.fid (Glimpses []), λ h j x y l. ap (count_of (name_of h)) none)
 
       starts_fit : (x : Call) → Goes (starts at slot x r k) p
       starts_fit (call.Lookup path) = let found = found_at_path notes path in known_or (op.Lookup path) (lookup_known found) (λ y e. lookup_usable notes found (found_usable notes path) y e)
@@ -206,10 +261,14 @@ module _ (head : table.Head) (c : ℕ) (stamp : Stamp) where
     stage_fit : (x : Stage) → RoomOf (held_at c p) r.pins x → Goes (goes_at at slot x r k) p
     stage_fit Plain room = plain_fit room r.asking
     stage_fit Bad room = λ covered. fit
-    stage_fit (Sizes w) room = sizes_fit r.asking w.kind w
+    stage_fit (Looks w) room = looks_so w.kind w room
     stage_fit (Enqueued w) room = λ covered. fit
-    stage_fit (Came w l) room = comes_at_fit head c stamp slot w.kind room.0 l r w k.store p refl fit mid room.1 room.2 room.3
-    stage_fit x room = absurd room
+    stage_fit (Waits w target l marked) room = λ covered. fit
+    stage_fit (Came w l) room = comes_so w.kind w l room.0 room.1
+    stage_fit (Forgotten w) room = λ covered. fit
+    stage_fit (Gets w) room = λ covered. fit
+    stage_fit (Flushing i) room = flushing_fit i r.file
+    stage_fit (Sizes w) room = sizes_fit r.asking w.kind w room
 
   goes_fit : (slot : ℕ) → slot < 4 → (p : List Line) → Fit c p → Goes (goes at slot (client_of head c p)) p
   goes_fit slot small p fit = subst (λ (x : Option Running). Goes (goes_on at slot (client_of head c p) x) p) (sym (on_small c slot p small)) (by (call_at c slot p) refl)
@@ -252,10 +311,14 @@ module _ (head : table.Head) (c : ℕ) (stamp : Stamp) where
   room_dropped : (now before : List HeldLock) → From now before → (names : List LockName) (x : Stage) → IsNotCame x → RoomOf before names x → RoomOf now names x
   room_dropped now before f names Plain n room = room
   room_dropped now before f names Bad n room = room
-  room_dropped now before f names (Sizes w) n room = room
+  room_dropped now before f names (Looks w) n room = (room.0, room_from now before f names w.left room.1)
   room_dropped now before f names (Enqueued w) n room = (room.0, room_from now before f names w.left room.1)
+  room_dropped now before f names (Waits w target l marked) n room = (room.0, room_from now before f names w.left room.1)
   room_dropped now before f names (Came w l) n room = absurd n
-  room_dropped now before f names x n room = absurd room
+  room_dropped now before f names (Forgotten w) n room = (room.0, room_from now before f names w.left room.1)
+  room_dropped now before f names (Gets w) n room = (room.0, room_from now before f names w.left room.1)
+  room_dropped now before f names (Flushing i) n room = room
+  room_dropped now before f names (Sizes w) n room = (room.0, room_from now before f names w.left room.1)
 
   pub drop_fit : (p : List Line) (t : ℕ) (lock : Lock) → Fit c p → ((s : ℕ) → NotCame (call_at c s p)) → ((s : ℕ) → In (named (record { 0 = t }) lock.cookie) (pins_at c p s) → ⊥) → Fit c (line at (Drop t lock) ∷ p)
   drop_fit p t lock fit came free =
@@ -328,7 +391,18 @@ module _ (head : table.Head) (c : ℕ) (stamp : Stamp) where
 
       next : (o : Option Flush) → EntriesCovered (writes_next h o) → Visiting rs (with_turn at (writes_next h o) p)
       next None covered = stays
-      next (Some change) covered = absurd covered.0
+      next (Some change) covered =
+          let q = with_turn at (writes_back h.target h.lock change) p in
+          let same = λ (s : ℕ). back_calls head c stamp (line at (WritesBack h.lock.resource change) ∷ p) h.target.0 (operation h.lock.resource h.lock.cookie change) s in
+          record {
+            fit = fit_lights head c stamp (writes_back h.target h.lock change) p (tt, (tt, tt)) v.fit;
+            came = λ s. subst NotCame (sym (same s)) (v.came s);
+            low = λ s above. same s ∙ v.low s above;
+            counted = λ g j.
+                let old = v.counted g (inr j) in
+                let less = sum_less (name_of g) (pins_at c q) (pins_at c p) (λ s. subst (λ (x : Option Running). count_of (name_of g) (names_on x) ≤ count_of (name_of g) (pins_at c p s)) (sym (same s)) (omega arith)) in
+                omega (arith, old, less);
+          }
 
       writes_it : (b : Bool) → EntriesCovered (if b then [] else writes_next h (flush_under patch h.lock.ask.mode h.lock.ask.policy))
           → Visiting rs (with_turn at (if b then [] else writes_next h (flush_under patch h.lock.ask.mode h.lock.ask.policy)) p)
@@ -361,9 +435,14 @@ module _ (head : table.Head) (c : ℕ) (stamp : Stamp) where
 
   -- ---- lines that leave the calls
 
+  -- it reads none, or queues a write-back
+  abbrev IsStill : Entry → Type 0
+  IsStill (Queues t q) = q.slot ≡ None
+  IsStill e = reads_call e ≡ false
+
   abbrev AllStill : List Entry → Type 0
   AllStill [] = Unit {0}
-  AllStill (e ∷ es) = (reads_call e ≡ false) × AllStill es
+  AllStill (e ∷ es) = IsStill e × AllStill es
 
   still_more : (es fs : List Entry) → AllStill es → AllStill fs → AllStill (es ++ fs)
   still_more [] fs a b = b
@@ -371,7 +450,15 @@ module _ (head : table.Head) (c : ℕ) (stamp : Stamp) where
 
   calls_still : (es : List Entry) (p : List Line) → AllStill es → (s : ℕ) → call_at c s (with_turn at es p) ≡ call_at c s p
   calls_still [] p a s = refl
-  calls_still (e ∷ es) p a s = calls_still es (line at e ∷ p) a.1 s ∙ ap (λ (b : Bool). on b (nat_eq c c) (call_after s (call_at c s p) e) (call_at c s p)) a.0
+  calls_still (e ∷ es) p a s = calls_still es (line at e ∷ p) a.1 s ∙ by e a.0
+    where
+      by : (e : Entry) → IsStill e → call_at c s (line at e ∷ p) ≡ call_at c s p
+      by (Queues t q) i = call_line head c stamp s p (Queues t q) ∙ ap (λ (o : Option ℕ). asks_for o s Asked (call_at c s p)) i
+      by (Begin slot r) i = absurd (cc)
+      by (Stands slot r) i = absurd (cc)
+      by (Heard t f r) i = absurd (cc)
+      by (Told slot t a w) i = absurd (cc)
+      by e i = refl
 
   marks_still : (hs : List HeldLock) → AllStill (marks_of hs)
   marks_still [] = tt
@@ -416,7 +503,7 @@ module _ (head : table.Head) (c : ℕ) (stamp : Stamp) where
 
       next : (o : Option Flush) → EntriesCovered (writes_next h o) → AllStill (writes_next h o)
       next None covered = tt
-      next (Some change) covered = absurd covered.0
+      next (Some change) covered = (refl, (refl, tt))
 
       writes_it : (b : Bool) → EntriesCovered (if b then [] else writes_next h (flush_under patch h.lock.ask.mode h.lock.ask.policy))
           → AllStill (if b then [] else writes_next h (flush_under patch h.lock.ask.mode h.lock.ask.policy))

@@ -8,6 +8,7 @@ use Rattle.lu_base.specs.declared.ids.Stamp.{Stamp}
 use Rattle.lu_base.specs.declared.locks.Lock.{Lock}
 use Rattle.lu_msg.specs.declared.answers.Answer.{Answer}
 use Rattle.lu_msg.specs.declared.calls.Call.{Call}
+use Rattle.lu_msg.specs.declared.operations.Op.{Op}
 use Rattle.lu_held.specs.declared.locks.Change.TheVariants as change
 use Rattle.lu_held.specs.declared.locks.HeldLock.{HeldLock}
 use Rattle.lu_held.specs.declared.names.LockName.{LockName}
@@ -224,6 +225,10 @@ module _ (head : table.Head) (c : ℕ) (stamp : Stamp) where
   pub lights_more : (es fs : List Entry) → AllLight es → AllLight fs → AllLight (es ++ fs)
   lights_more [] fs a b = b
   lights_more (e ∷ es) fs a b = (a.0, lights_more es fs a.1 b)
+
+  -- a write-back is queued, for no call
+  pub back_calls : (p : List Line) (t : ℕ) (o : Op) (s : ℕ) → call_at c s (line at (Queues t (record { slot = None; op = o })) ∷ p) ≡ call_at c s p
+  back_calls p t o s = call_line head c stamp s p (Queues t (record { slot = None; op = o }))
 
   -- ---- a call goes on
 

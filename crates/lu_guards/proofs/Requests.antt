@@ -1,4 +1,4 @@
--- What a life asks of a target: each of its request numbers is of one operation, whatever of it is in flight, was sent, or waits there.
+-- What a life asks of a target: each of its request numbers is of one operation, whatever of it is in flight, was sent, waits there, or was answered.
 use Rattle.std.proofs.Common.{◌≡◌, ℕ, ◌+◌, ◌≤◌, true, List, [], ◌∷◌, ◌++◌, Some, None, ◌⊎◌, inl, inr, ⊎_elim, sym, subst, ap, ◌∙◌, arith}
 use Rattle.std.specs.Prelude.{nat_eq, not}
 use Rattle.std.specs.List.{filter}
@@ -8,18 +8,19 @@ use Rattle.lu_base.specs.declared.ids.Node.TheVariants.{Client, Target}
 use Rattle.lu_base.specs.declared.ids.Who.{Who}
 use Rattle.lu_msg.specs.declared.messages.Message.{Message}
 use Rattle.lu_msg.specs.declared.messages.Message.TheVariants as message
+use Rattle.lu_msg.specs.declared.messages.Reply.{Reply as ReplyTo}
 use Rattle.lu_msg.specs.declared.messages.Request.{Request as RequestOf}
 use Rattle.lu_msg.specs.declared.operations.Op.{Op}
 use Rattle.lu_words.specs.Carried.{Deed, Flight}
-use Rattle.lu_words.specs.Words.{Entry, Send, Flies, Heard, Enters, Act, Txn, Grant, Evict, Close, Line, line}
+use Rattle.lu_words.specs.Words.{Entry, Send, Flies, Heard, Enters, Act, Txn, Grant, Wait, Answers, Evict, Close, Line, line}
 use Rattle.lu_target_rows.specs.Lives.{is_life}
 use Rattle.lu_client_rows.specs.Imports.{without_flight}
 use Rattle.lu_covered.specs.ClientStates.{flights_of, last_of, life_of, is_own}
 use Rattle.lu_covered.specs.Heads.{Head}
 use Rattle.lu_covered.specs.TargetParts.{is_request_of}
 use Rattle.lu_covered.specs.TargetStates.{server_of}
-use Rattle.lu_guards.proofs.Guards.{In, Was}
-use Rattle.lu_guards.proofs.StoryGuards.{FliesOk, SendOf, EntryOf}
+use Rattle.lu_guards.proofs.Guards.{In, Was, HeardAs}
+use Rattle.lu_guards.proofs.StoryGuards.{FliesOk, HeardOk, SendOf, EntryOf}
 use Rattle.lu_guards.proofs.Lists.{turn, in_append, in_filter, own_is}
 
 -- that request of the life asked for that: reads Flies
@@ -33,9 +34,10 @@ pub record Requests (osts : ℕ) (past : List Line) : Type 0 where
   pub flying : (who : Who) (f : Flight) → In f (flights_of who past) → Asks past who f.xid f.op
   pub sent : (from to : Node) (r : RequestOf) → Was past from to (message.Request r) → Asks past r.who r.xid.0 r.op
   pub waits : (r : RequestOf) → In r (server_of osts past).waiting → Asks past r.who r.xid.0 r.op
+  pub heard : (who : Who) (f : Flight) (r : ReplyTo) → HeardAs past who f r → Asks past who f.xid f.op
 
 pub requests_start : (osts : ℕ) → Requests osts []
-requests_start osts = record { low = λ who n o a. absurd a; one = λ who n o p a b. absurd a; flying = λ who f i. absurd i; sent = λ from to r was. absurd was; waits = λ r i. absurd i }
+requests_start osts = record { low = λ who n o a. absurd a; one = λ who n o p a b. absurd a; flying = λ who f i. absurd i; sent = λ from to r was. absurd was; waits = λ r i. absurd i; heard = λ who f r k. absurd k }
 
 pub asks_more : (past : List Line) (l : Line) (who : Who) (n : ℕ) (o : Op) → Asks past who n o → Asks (l ∷ past) who n o
 asks_more past l who n o a = by l.entry
@@ -81,6 +83,7 @@ requests_line head past l ok h = by l.at.node l.entry ok
               (λ own i. inr (h.flying who g i));
           sent = λ from to r w. inr (h.sent from to r w);
           waits = λ r i. inr (h.waits r i);
+          heard = λ who g r k. inr (h.heard who g r k);
         }
       where
         next : (who : Who) → is_own who past (Client c) ≡ true → f.xid ≡ last_of who past + 1
@@ -100,6 +103,12 @@ requests_line head past l ok h = by l.at.node l.entry ok
         one who n o p (inr a) (inl q) = absurd (above who n o q.0 q.1 a)
         one who n o p (inr a) (inr b) = h.one who n o p a b
 
+    -- what is heard answers a request in flight
+    hears : (c t : ℕ) (f : Flight) (r : ReplyTo) → HeardOk past c f r → (who : Who) (g : Flight) (k : ReplyTo) → ((is_own who past (Client c) ≡ true) × (f ≡ g) × (r ≡ k)) ⊎ HeardAs past who g k → Asks past who g.xid g.op
+    hears c t f r ok who g k (inl q) =
+        subst (λ (x : Flight). Asks past who x.xid x.op) q.1 (subst (λ (w : Who). Asks past w f.xid f.op) (sym (own_is who past c q.0)) (h.flying (life_of c past) f ok.flying))
+    hears c t f r ok who g k (inr q) = h.heard who g k q
+
     by : (node : Node) (e : Entry) → EntryOf head past (turn l.at.stamp node) node e → Next node e
     by (Client c) (Flies t f) ok = flies c t f ok
     by (Client c) (Heard t f r) ok =
@@ -111,10 +120,12 @@ requests_line head past l ok h = by l.at.node l.entry ok
               (λ own i. h.flying who g i);
           sent = h.sent;
           waits = h.waits;
+          heard = λ who g k q. hears c t f r ok who g k q;
         }
-    by (Client c) (Send to m) ok = record { low = h.low; one = h.one; flying = h.flying; sent = was (Client c) to m (sends (Client c) to m ok); waits = h.waits }
-    by (Target t) (Send to m) ok = record { low = h.low; one = h.one; flying = h.flying; sent = was (Target t) to m (sends (Target t) to m ok); waits = h.waits }
+    by (Client c) (Send to m) ok = record { low = h.low; one = h.one; flying = h.flying; sent = was (Client c) to m (sends (Client c) to m ok); waits = h.waits; heard = h.heard }
+    by (Target t) (Send to m) ok = record { low = h.low; one = h.one; flying = h.flying; sent = was (Target t) to m (sends (Target t) to m ok); waits = h.waits; heard = h.heard }
     by (Target t) (Flies u f) ok = absurd ok
+    by (Target t) (Heard u f r) ok = absurd ok
     by (Target t) (Enters r) ok =
         record {
           low = h.low;
@@ -124,12 +135,15 @@ requests_line head past l ok h = by l.at.node l.entry ok
           waits = λ q i. ⊎_elim (λ (j : In q (server_of head.osts past).waiting). h.waits q j)
               (λ (j : In q (r ∷ [])). ⊎_elim (λ (e : r ≡ q). subst (λ (x : RequestOf). Asks past x.who x.xid.0 x.op) e (h.sent (Client ok.from) (Target t) r ok.was)) (λ (k : ⊥). absurd k) j)
               (in_append q (server_of head.osts past).waiting (r ∷ []) i);
+          heard = h.heard;
         }
-    by (Target t) (Act d) ok = record { low = h.low; one = h.one; flying = h.flying; sent = h.sent; waits = without d }
-    by (Target t) (Txn d) ok = record { low = h.low; one = h.one; flying = h.flying; sent = h.sent; waits = without d }
-    by (Target t) (Grant lock (Some d)) ok = record { low = h.low; one = h.one; flying = h.flying; sent = h.sent; waits = without d }
-    by (Target t) (Grant lock None) ok = absurd ok
+    by (Target t) (Act d) ok = record { low = h.low; one = h.one; flying = h.flying; sent = h.sent; waits = without d; heard = h.heard }
+    by (Target t) (Txn d) ok = record { low = h.low; one = h.one; flying = h.flying; sent = h.sent; waits = without d; heard = h.heard }
+    by (Target t) (Grant lock (Some d)) ok = record { low = h.low; one = h.one; flying = h.flying; sent = h.sent; waits = without d; heard = h.heard }
+    by (Target t) (Wait lock d) ok = record { low = h.low; one = h.one; flying = h.flying; sent = h.sent; waits = without d; heard = h.heard }
+    by (Target t) (Answers d) ok = record { low = h.low; one = h.one; flying = h.flying; sent = h.sent; waits = without d; heard = h.heard }
+    by (Target t) (Grant lock None) ok = record { low = h.low; one = h.one; flying = h.flying; sent = h.sent; waits = h.waits; heard = h.heard }
     by (Target t) (Evict w cause) ok =
-        record { low = h.low; one = h.one; flying = h.flying; sent = h.sent; waits = λ r i. h.waits r (in_filter (λ (q : RequestOf). not (is_life q.who (w ∷ []))) r (server_of head.osts past).waiting i).0 }
-    by (Target t) (Close o) ok = record { low = h.low; one = h.one; flying = h.flying; sent = h.sent; waits = λ r i. absurd i }
-    by node e ok = record { low = h.low; one = h.one; flying = h.flying; sent = h.sent; waits = h.waits }
+        record { low = h.low; one = h.one; flying = h.flying; sent = h.sent; waits = λ r i. h.waits r (in_filter (λ (q : RequestOf). not (is_life q.who (w ∷ []))) r (server_of head.osts past).waiting i).0; heard = h.heard }
+    by (Target t) (Close o) ok = record { low = h.low; one = h.one; flying = h.flying; sent = h.sent; waits = λ r i. absurd i; heard = h.heard }
+    by node e ok = record { low = h.low; one = h.one; flying = h.flying; sent = h.sent; waits = h.waits; heard = h.heard }

@@ -30,6 +30,7 @@ use Rattle.lu_guards.proofs.LockLists.{Rises, rises_filter}
 use Rattle.lu_guards.proofs.ClientLocks.{in_map, any_passes}
 use Rattle.lu_guards.proofs.CloseLists.{puts_or, puts_more, stays_all, left_all, gone_had, stays_back, left_not, OneEach, in_wish, each_wish, wish_one, in_placed, rises_brought, in_restored, rises_restored, last_low}
 use Rattle.lu_guards.proofs.TargetStory.{Belongs, Story, numbered, logged_top, story_start, story_client, story_line}
+use Rattle.lu_guards.proofs.TargetWaits.{waits_close}
 use Rattle.lu_guards.proofs.Has.{deeds_fine}
 use Rattle.lu_guards.proofs.Given.{Gave, Grants, Given, given_start, given_line}
 
@@ -171,11 +172,14 @@ module _ (head : Head) (t : ℕ) (past : List Line) (stamp : Stamp) (h : Sound h
         logged = low of_committed;
         waits = λ r i. absurd i;
         holds = λ l i. let k = restored_stays l i in stays_slot of_lives l.ask.who k.0 k.1;
+        queues = λ l i. absurd i;
         calls = λ c i. absurd i;
         single = λ a b p q e. one a b (joins_or of_lives a p) (joins_or of_lives b q) e;
         older = λ w r p q e. above w r (joins_or of_lives w p) (gone_or of_removed r q) e;
         order = order_puts x.joins (without_lives gone disk.lives) (order_filter (λ (w : Who). not (is_life w gone)) disk.lives (subst InOrder (sym of_lives) h.story.order));
         over = order_puts gone disk.removed (subst InOrder (sym of_removed) h.story.over);
+        waits_so = waits_close (server_of head.osts past).boot (server_of head.osts past).cookie x.locks h.story.waits_so.low
+            (λ l i. h.given.low l (h.given.has.brought l (in_filter (λ (k : Lock). not (is_life k.ask.who gone)) l (brought_of past) (in_restored [] (filter (λ (k : Lock). not (is_life k.ask.who gone)) (brought_of past)) l i)).0));
       }
     where
       Keeps : Who → Type 0

@@ -1,6 +1,6 @@
 -- When a line may be added to a past, by what concerns one target: what it rests on there, over the story of that target just before it.
 use Rattle.std.proofs.Common.{◌≡◌, ℕ, ◌+◌, ◌<◌, ◌≤◌, true, false, List, [], ◌∷◌, Some, None, ◌⊎◌}
-use Rattle.std.specs.Prelude.{length, map, max, ◌==◌, nat_lt, not, filter, if◌then◌else◌}
+use Rattle.std.specs.Prelude.{length, map, max, nat_lt, not, filter, if◌then◌else◌}
 use Rattle.std.specs.List.{list_any}
 use Rattle.lu_base.specs.declared.ids.At.{At}
 use Rattle.lu_base.specs.declared.ids.Cookie.{Cookie}
@@ -10,10 +10,9 @@ use Rattle.lu_base.specs.declared.ids.Txn.{Txn as TxnOf}
 use Rattle.lu_base.specs.declared.ids.Who.{Who}
 use Rattle.lu_base.specs.declared.locks.Cause.{Cause}
 use Rattle.lu_base.specs.declared.locks.Cause.TheVariants.{Expired, Replaced}
-use Rattle.lu_base.specs.declared.locks.Extent.{Extent}
 use Rattle.lu_base.specs.declared.locks.Lock.{Lock}
-use Rattle.lu_base.specs.declared.locks.Mode.TheVariants.{PR}
-use Rattle.lu_base.specs.declared.locks.Resource.{Resource}
+use Rattle.lu_base.specs.declared.locks.Mode.TheVariants.{PR, PW}
+use Rattle.lu_lock.specs.Growth.{the_end}
 use Rattle.lu_msg.specs.declared.answers.Answer.{Answer}
 use Rattle.lu_msg.specs.declared.messages.Message.{Message}
 use Rattle.lu_msg.specs.declared.messages.Message.TheVariants as message
@@ -29,10 +28,10 @@ use Rattle.lu_held.specs.Held.{is_held}
 use Rattle.lu_machine.specs.Fits.{answer_fits}
 use Rattle.lu_machine.specs.Footprint.{changes}
 use Rattle.lu_words.specs.Carried.{Deed, Said, Queued, Flight, Called, Disk, Outcome}
-use Rattle.lu_words.specs.Words.{Entry, Begin, Busy, Queues, Flies, Stands, Send, Take, Tick, Heard, Hold, Drop, Told, Die, Pins, Unpins, Marks, Learns, Act, Txn, Grant, Block, Release, Enters, Line, turn_before, is_client, Skip, Commit, Life, Serves, Settles, Evict, Joined, Binds, Unbinds, Knows, Unmarks, Crash, Boot, Back, Close, Kept, Restore, Stores, Brings, Says, Wishes}
+use Rattle.lu_words.specs.Words.{Entry, Begin, Busy, Queues, Flies, Stands, Send, Take, Tick, Heard, Hold, Drop, Told, Die, Pins, Unpins, Marks, Learns, Act, Txn, Grant, Wait, Answers, Asks, Ends, Block, Release, Enters, Line, turn_before, is_client, Skip, Commit, Life, Serves, Settles, Evict, Joined, Binds, Unbinds, Knows, Unmarks, Peek, Changes, WritesBack, Acks, Fills, Zeroes, Grown, Shows, Crash, Boot, Back, Close, Kept, Restore, Stores, Brings, Says, Wishes}
 use Rattle.lu_target_rows.specs.Leaving.{is_over, life_of as life_in}
 use Rattle.lu_target_rows.specs.Lives.{is_life}
-use Rattle.lu_target_rows.specs.Locks.{with_lock, without_lock}
+use Rattle.lu_target_rows.specs.Locks.{with_lock, without_lock, same_request}
 use Rattle.lu_target_rows.specs.Names.{in_way, is_free, is_read, guards_part}
 use Rattle.lu_target_rows.specs.Objects.{lock_of}
 use Rattle.lu_target_rows.specs.Replies.{is_called}
@@ -47,20 +46,14 @@ use Rattle.lu_client_rows.specs.Imports.{Replay, Joining, Recovering, Serving}
 use Rattle.lu_client_rows.specs.Recovery.{next_life, lock_replayed, replayed as replayed_by}
 use Rattle.lu_client_rows.specs.Sending.{next_flight, front_waits}
 use Rattle.lu_covered.specs.TargetParts.{without_request, cookie_after}
-use Rattle.lu_covered.specs.TargetStates.{none, server_of, slot_of, lives_of, evicted_of, shown_of, closed_of, up_of, replays_of, brought_of, words_of, wishes_of, window_of, next_number}
+use Rattle.lu_covered.specs.TargetStates.{none, server_of, slot_of, lives_of, evicted_of, shown_of, up_of, replays_of, brought_of, words_of, wishes_of, window_of, next_number}
 use Rattle.lu_covered.specs.TargetCloses.{disk_of, outcome_of, closing_of}
-use Rattle.lu_covered.specs.Deeds.{asked, deed, sized, read_lock, granted, locks_of, written_by, again}
-use Rattle.lu_covered.specs.ClientStates.{queue_of, flights_of, last_of, known_of, life_of, standing_of, kept_of}
+use Rattle.lu_covered.specs.Deeds.{asked, deed, locks_of, written_by, again}
+use Rattle.lu_covered.specs.ClientStates.{queue_of, flights_of, last_of, known_of, life_of, standing_of, kept_of, awaits_of}
 use Rattle.lu_covered.specs.Heads.{Head}
+pub use Rattle.lu_guards.proofs.ObjectGuards.{IsServing, IsRecovering, RangeOk, WaitOk, PromoteOk, WayOk, GoesUnder, WritesUnder, WriteOk, PageOk, covers_page, covers_range, IsUncovered, UncoveredOk, Unasked, GoesPast, SizedOk, LockFirstOk, AsksOk, AskHolderOk, ReportsOn, TookReport, IsReleaseOf, GlimpseEndsOk, EndedBy, EndedOk, ReportedOk, AnswersOk, JustGranted, AskedWhere, GivesOk}
+pub use Rattle.lu_guards.proofs.ClientStoryGuards.{GivenOf, HeldNow, GivenSettles, WhereOk, ReportsOk}
 use Rattle.lu_guards.proofs.Guards.{In, Was, HeardNow, TookNow, Took, Dropped, request, name_of, Did, InTurn, IsCommit, IsTick, IsTake, BackNow, IsTurnOf}
-
--- the target serves: it is up, and its recovery window is closed
-abbrev pub IsServing : ℕ → List Line → Type 0
-IsServing osts past = record { closed : closed_of past ≡ (server_of osts past).boot; up : up_of past ≡ true }
-
--- it recovers: it was booted, and its window isn't closed yet
-abbrev pub IsRecovering : ℕ → List Line → Type 0
-IsRecovering osts past = (closed_of past == (server_of osts past).boot) ≡ false
 
 -- a line that a close has to show is that which comes next, in the turn of the close
 abbrev pub Due : Head → List Line → At → Entry → Type 0
@@ -175,10 +168,14 @@ pub record WordsOk (past : List Line) (c : ℕ) (who : Who) (boot replays locks 
   pub of_seen : seen ≡ (kept_of who past).seen
 
 -- the target said that all up to that number is committed
-pub record SettlesOk (past : List Line) (c t to : ℕ) : Type 0 where
+pub record ReadySettles (past : List Line) (c t to : ℕ) : Type 0 where
   pub serves : standing_of c past ≡ Serving
   pub boot : ℕ
   pub was : Was past (Target t) (Client c) (message.Ready (life_of c past) boot (record { 0 = to }))
+
+-- as it served the life, or with the grant of a lock that waited
+abbrev pub SettlesOk : List Line → (c t to : ℕ) → Type 0
+SettlesOk past c t to = ReadySettles past c t to ⊎ GivenSettles past c t to
 
 -- the target said that it serves the life
 pub record ServesOk (past : List Line) (c t boot : ℕ) : Type 0 where
@@ -186,13 +183,14 @@ pub record ServesOk (past : List Line) (c t boot : ℕ) : Type 0 where
   pub was : Was past (Target t) (Client c) (message.Ready (life_of c past) boot committed)
   pub of_boot : boot ≡ known_of c past
 
--- the lock was just given up; or it was called back while it wasn't held, and no request is in flight
+-- the lock was just given up; or it was called back while it wasn't held nor waited for, and no request is in flight
 pub record CancelOk (past : List Line) (c t : ℕ) (who : Who) (boot : ℕ) (cookie : Cookie) : Type 0 where
   pub of_life : who ≡ life_of c past
   pub of_boot : boot ≡ known_of c past
   pub free : is_held (name_of t cookie) (held_at c past) ≡ false
   pub there : (h : HeldLock) → In h (held_at c past) → h.target.0 ≡ t
-  pub cause : Dropped past c t cookie ⊎ ((flights_of (life_of c past) past ≡ []) × ((from b : ℕ) × Was past (Target from) (Client c) (message.Block who b cookie)))
+  pub cause : Dropped past c t cookie
+      ⊎ ((flights_of (life_of c past) past ≡ []) × (awaits_of (life_of c past) cookie.0 past ≡ 0) × ((from b : ℕ) × Was past (Target from) (Client c) (message.Block who b cookie)))
 
 -- a request of a life with a slot, of the present boot or a later one, and of the newest number taken of its life and tag
 pub record AsksAgain (head : Head) (past : List Line) (t : ℕ) (who : Who) (tag : ℕ) : Type 0 where
@@ -239,6 +237,8 @@ pub record ReadyOk (head : Head) (past : List Line) (c : ℕ) (who : Who) (boot 
 abbrev pub SaidBy : Who → Message → Type 0
 SaidBy who (message.Request r) = r.who ≡ who
 SaidBy who (message.Cancel other boot cookie) = other ≡ who
+SaidBy who (message.Where other boot cookie) = other ≡ who
+SaidBy who (message.Size m) = m.who ≡ who
 SaidBy who (message.Replay r) = r.who ≡ who
 SaidBy who (message.Lock r) = r.who ≡ who
 SaidBy who (message.Word other boot replays locks seen) = other ≡ who
@@ -279,6 +279,7 @@ pub record EntersOk (osts clients : ℕ) (past : List Line) (t : ℕ) (r : Reque
   pub was : Was past (Client from) (Target t) (message.Request r)
   pub current : (server_of osts past).boot ≤ r.boot
   pub newer : (slot_of r.who r.tag past).taken < r.xid.0
+  pub fresh : (q : RequestOf) → In q (server_of osts past).waiting → same_request q r ≡ false
 
 -- a boot has room for the cookies of the locks that it grants
 pub record ActOk (osts : ℕ) (past : List Line) (at : At) (d : Deed) : Type 0 where
@@ -287,18 +288,10 @@ pub record ActOk (osts : ℕ) (past : List Line) (at : At) (d : Deed) : Type 0 w
   pub request : RequestOf
   pub waits : In request (server_of osts past).waiting
   pub still : changes osts (server_of osts past).tree (asked request none) ≡ false
+  pub unasked : Unasked (server_of osts past).glimpses request
   pub is : d ≡ deed osts (server_of osts past) at request none (locks_of osts (server_of osts past) request)
 
--- a glimpse is told the size of an object that nothing was written to
-pub record SizedOk (osts : ℕ) (past : List Line) (at : At) (d : Deed) : Type 0 where
-  pub serves : IsServing osts past
-  pub request : RequestOf
-  pub waits : In request (server_of osts past).waiting
-  pub resource : Resource
-  pub of_op : request.op ≡ op.Size resource
-  pub is : d ≡ sized (server_of osts past) at request 0
-
--- the metadata target executes operations on names, an object storage target answers glimpses
+-- the metadata target executes operations on names, an object storage target tells how long an object is
 abbrev pub ActsOk : ℕ → List Line → At → ℕ → Deed → Type 0
 ActsOk osts past at t d = ((t ≡ 0) × ActOk osts past at d) ⊎ ((0 < t) × SizedOk osts past at d)
 
@@ -312,6 +305,10 @@ pub record TxnOk (osts : ℕ) (past : List Line) (at : At) (d : Deed) : Type 0 w
   pub free : is_free (in_way (server_of osts past).granted (written_by osts (server_of osts past) request)) ≡ true
   pub is : d ≡ deed osts (server_of osts past) at request (next_number (server_of osts past)) []
 
+-- the metadata target makes transactions on names, an object storage target on objects
+abbrev pub TxnsOk : ℕ → List Line → At → ℕ → Deed → Type 0
+TxnsOk osts past at t d = ((t ≡ 0) × TxnOk osts past at d) ⊎ ((0 < t) × WriteOk osts past at d)
+
 -- what it shows stands since the act
 pub record GrantOk (osts : ℕ) (past : List Line) (lock : Lock) (d : Deed) : Type 0 where
   pub did : Did past d
@@ -319,19 +316,8 @@ pub record GrantOk (osts : ℕ) (past : List Line) (lock : Lock) (d : Deed) : Ty
   pub granted : with_lock lock (server_of osts past).granted ≡ (server_of osts past).granted
   pub cookie : max (server_of osts past).cookie lock.cookie.0 ≡ (server_of osts past).cookie
   pub waiting : without_request d (server_of osts past).waiting ≡ (server_of osts past).waiting
+  pub queued : without_lock lock (server_of osts past).queued ≡ (server_of osts past).queued
   pub slot : (slot_of d.reply.who d.tag past).reply ≡ Some d.reply
-
--- who asks for a lock to read under gets the next one, on the whole object, to which nothing was written
-pub record RangeOk (osts : ℕ) (past : List Line) (at : At) (lock : Lock) (d : Deed) : Type 0 where
-  pub serves : IsServing osts past
-  pub room : (server_of osts past).cookie + 1 ≤ first_of (server_of osts past).boot + 4294967295
-  pub request : RequestOf
-  pub waits : In request (server_of osts past).waiting
-  pub resource : Resource
-  pub extent : Extent
-  pub of_op : request.op ≡ op.Enqueue resource PR extent
-  pub of_lock : lock ≡ read_lock (server_of osts past) request resource
-  pub is : d ≡ granted (server_of osts past) at request lock
 
 -- the metadata target shows the locks of what was just done, an object storage target grants the lock that was asked for
 abbrev pub GrantsOk : ℕ → List Line → At → ℕ → Lock → Deed → Type 0
@@ -349,6 +335,10 @@ pub record BlockOk (osts : ℕ) (past : List Line) (called : Called) : Type 0 wh
   pub waits : In request (server_of osts past).waiting
   pub modifies : is_read request.op ≡ false
   pub for_it : list_any (guards_part lock) (written_by osts (server_of osts past) request) ≡ true
+
+-- the metadata target calls back what guards what is to be written, an object storage target what is in the way of a lock that waits
+abbrev pub BlocksOk : ℕ → List Line → ℕ → Called → Type 0
+BlocksOk osts past t called = ((t ≡ 0) × BlockOk osts past called) ⊎ ((0 < t) × WayOk osts past called)
 
 -- a granted lock whose holder gives it back
 pub record BackOk (osts : ℕ) (past : List Line) (t : ℕ) (lock : Lock) : Type 0 where
@@ -497,9 +487,16 @@ pub record WishesOk (head : Head) (past : List Line) (at : At) (t : ℕ) (who : 
   pub newer : old.life < who.life
   pub newest : is_newest who (wishes_of past) ≡ true
 
+-- a lock on an object is asked for on a range in order, to read or to write
+abbrev pub AsksInOrder : Op → Type 0
+AsksInOrder (op.Enqueue resource mode extent) = (extent.first ≤ extent.last) × (extent.last ≤ the_end) × ((mode ≡ PR) ⊎ (mode ≡ PW))
+AsksInOrder _ = Unit {0}
+
 abbrev pub SendOf : Head → List Line → Node → Node → Message → Type 0
 SendOf head past (Client c) (Target t) (message.Request r) = AskOk past c r
 SendOf head past (Client c) (Target t) (message.Cancel who boot cookie) = CancelOk past c t who boot cookie
+SendOf head past (Client c) (Target t) (message.Where who boot cookie) = WhereOk past c who boot cookie
+SendOf head past (Client c) (Target t) (message.Size s) = ReportsOk past c t s
 SendOf head past (Client c) (Target t) (message.Join who boot) = JoinsOk past c who boot
 SendOf head past (Client c) (Target t) (message.Replay r) = ReplaysOk past c r
 SendOf head past (Client c) (Target t) (message.Lock r) = RelocksOk past c r
@@ -507,6 +504,8 @@ SendOf head past (Client c) (Target t) (message.Word who boot replays locks seen
 SendOf head past (Target t) (Client c) (message.Up boot) = UpOk head past t c boot
 SendOf head past (Target t) (Client c) (message.Reply k) = ReplyOk head past t c k
 SendOf head past (Target t) (Client c) (message.Block who boot cookie) = CallsOk head.osts past c who boot cookie
+SendOf head past (Target t) (Client c) (message.Grant g) = GivesOk head.osts past t c g
+SendOf head past (Target t) (Client c) (message.Ask who boot cookie for_who xid) = AskHolderOk head.osts past c who boot cookie for_who xid
 SendOf head past (Target t) (Client c) (message.Ready who boot committed) = ReadyOk head past c who boot committed
 SendOf head past (Target t) (Client c) (message.Evicted who boot) = NoticeOk head past t c who boot
 SendOf head past _ _ _ = ⊥
@@ -517,11 +516,11 @@ EntryOf head past at node (Send to m) = SendOf head past node to m
 EntryOf head past at node Tick = Unit {0}
 EntryOf head past at (Client c) (Begin slot running) = Unit {0}
 EntryOf head past at (Client c) (Busy slot) = Unit {0}
-EntryOf head past at (Client c) (Queues t q) = Unit {0}
+EntryOf head past at (Client c) (Queues t q) = AsksInOrder q.op
 EntryOf head past at (Client c) (Stands slot running) = Unit {0}
 EntryOf head past at (Client c) (Flies t f) = FliesOk head past c t f
 EntryOf head past at (Client c) (Heard t f r) = HeardOk past c f r
-EntryOf head past at (Client c) (Hold t lock marked size seen) = (marked ≡ false) × HeldOk past c t lock seen
+EntryOf head past at (Client c) (Hold t lock marked size seen) = ((marked ≡ false) × HeldOk past c t lock seen) ⊎ GivenOf past c t lock seen
 EntryOf head past at (Client c) (Learns t op answer locks) = KnowsOk past op answer locks
 EntryOf head past at (Client c) (Drop t lock) = DropOk past c t lock
 EntryOf head past at (Client c) (Pins name) = Unit {0}
@@ -536,11 +535,24 @@ EntryOf head past at (Client c) (Unmarks t) = Unit {0}
 EntryOf head past at (Client c) (Serves t boot) = ServesOk past c t boot
 EntryOf head past at (Client c) (Settles t to) = SettlesOk past c t to
 EntryOf head past at (Client c) Die = Unit {0}
+EntryOf head past at (Client c) (Peek t cookie size) = Unit {0}
+EntryOf head past at (Client c) (Changes resource change) = Unit {0}
+EntryOf head past at (Client c) (WritesBack resource change) = Unit {0}
+EntryOf head past at (Client c) (Acks resource) = Unit {0}
+EntryOf head past at (Client c) (Fills resource offset bytes) = Unit {0}
+EntryOf head past at (Client c) (Zeroes resource size) = Unit {0}
+EntryOf head past at (Client c) (Grown resource change) = Unit {0}
+EntryOf head past at (Client c) (Shows resource cookie last) = Unit {0}
 EntryOf head past at (Target t) (Enters r) = EntersOk head.osts head.clients past t r
 EntryOf head past at (Target t) (Act d) = ActsOk head.osts past at t d
-EntryOf head past at (Target t) (Txn d) = TxnOk head.osts past at d
+EntryOf head past at (Target t) (Txn d) = TxnsOk head.osts past at t d
 EntryOf head past at (Target t) (Grant lock (Some d)) = GrantsOk head.osts past at t lock d
-EntryOf head past at (Target t) (Block called) = BlockOk head.osts past called
+EntryOf head past at (Target t) (Grant lock None) = (0 < t) × PromoteOk head.osts past lock
+EntryOf head past at (Target t) (Wait lock d) = (0 < t) × WaitOk head.osts past at lock d
+EntryOf head past at (Target t) (Answers d) = (0 < t) × AnswersOk head.osts past at t d
+EntryOf head past at (Target t) (Asks g) = (0 < t) × AsksOk head.osts past g
+EntryOf head past at (Target t) (Ends g) = (0 < t) × GlimpseEndsOk head.osts past at t g
+EntryOf head past at (Target t) (Block called) = BlocksOk head.osts past t called
 EntryOf head past at (Target t) (Release lock) = ReleaseOk head.osts past t lock
 EntryOf head past at (Target t) Skip = Unit {0}
 EntryOf head past at (Target t) (Commit to batch) = CommitOk head past at to batch

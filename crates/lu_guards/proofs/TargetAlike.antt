@@ -2,66 +2,42 @@
 -- was done and stands on the disk is what the guards speak of. A life that leaves is gone from the target with the commit, and from the
 -- story with its line `evict`; a life that comes is there with the commit, and in the story with its line `joined`. `Window` says how
 -- both go together in between. What a boot takes from the disk stands there (`OnDisk`).
-use Rattle.std.proofs.Common.{◌≡◌, ℕ, ◌<◌, Bool, true, false, List, [], ◌∷◌, ◌++◌, Some, ◌⊎◌, inl, inr, refl, sym, subst, ap, ◌∙◌}
-use Rattle.std.specs.Prelude.{nat_eq, nat_lt, max, filter, map, not, ◌&&◌, ◌||◌}
+use Rattle.std.proofs.Common.{◌≡◌, ℕ, ◌<◌, Bool, true, false, List, [], ◌∷◌, Some, None, ◌⊎◌, inl, inr, refl, sym, subst, ap, ◌∙◌}
+use Rattle.std.specs.Prelude.{nat_eq, nat_lt, filter, map, not, ◌&&◌, ◌||◌}
 use Rattle.std.proofs.lemmas.Bool.{cond-true, lt-ltb}
 use Rattle.std.proofs.Math.Nat.{max-zero}
 use Rattle.lu_base.specs.declared.ids.Node.{Node}
 use Rattle.lu_base.specs.declared.ids.Node.TheVariants as node
 use Rattle.lu_base.specs.declared.ids.Stamp.{Stamp}
-use Rattle.lu_base.specs.declared.ids.Txn.{Txn as TxnOf}
 use Rattle.lu_base.specs.declared.ids.Who.{Who}
 use Rattle.lu_base.specs.declared.locks.Cause.{Cause}
 use Rattle.lu_base.specs.declared.locks.Lock.{Lock}
 use Rattle.lu_msg.specs.declared.messages.Message.{Message}
-use Rattle.lu_msg.specs.declared.operations.Op.{Op}
-use Rattle.lu_msg.specs.declared.operations.Op.TheVariants as op
 use Rattle.lu_msg.specs.declared.commits.Batch.{Batch}
 use Rattle.lu_msg.specs.declared.commits.Transaction.{Transaction}
 use Rattle.lu_msg.specs.declared.messages.Request.{Request as RequestOf}
-use Rattle.lu_machine.specs.Footprint.{changes, forget, after as tree_after}
+use Rattle.lu_machine.specs.Footprint.{forget}
 use Rattle.lu_machine.specs.Tree.{Tree}
-use Rattle.lu_words.specs.Carried.{Deed, Contents, Called}
-use Rattle.lu_words.specs.Words.{Entry, Send, Take, Tick, Skip, Act, Txn, Grant, Block, Release, Commit, Crash, Boot, Back, Close, Kept, Restore, Enters, Evict, Joined, Stores, Brings, Says, Wishes, Line, line, with_turn, same_life}
-use Rattle.lu_target_rows.specs.Locks.{with_lock, with_locks, without_lock, locks_without, called_without, without_request}
+use Rattle.lu_words.specs.Carried.{Deed, Contents, Called, Glimpse}
+use Rattle.lu_words.specs.Words.{Entry, Send, Take, Tick, Skip, Act, Txn, Grant, Wait, Answers, Asks, Ends, Block, Release, Commit, Crash, Boot, Back, Close, Kept, Restore, Enters, Evict, Joined, Stores, Brings, Says, Wishes, Line, line, with_turn, same_life}
+use Rattle.lu_target_rows.specs.Locks.{with_lock, with_locks, without_lock, locks_without, called_without, is_request_of, without_request, same_glimpse}
 use Rattle.lu_target_rows.specs.Lives.{is_life, with_life, with_lives, without_lives}
 use Rattle.lu_target_rows.specs.States.{Setting, Target, after, target_at}
-use Rattle.lu_target_rows.specs.Stored.{done_by, operation_of, transaction_of, forgotten, batch_of, last_number}
+use Rattle.lu_target_rows.specs.Stored.{transaction_of, forgotten, batch_of, last_number}
 use Rattle.lu_target_rows.specs.Leaving.{commits, last_of}
-use Rattle.lu_covered.specs.Deeds.{asked}
 use Rattle.lu_covered.specs.Heads.{Head}
-use Rattle.lu_covered.specs.TargetStates.{Server, none, next_number, server_of, server_after, lives_of, evicted_of, shown_of}
+use Rattle.lu_covered.specs.TargetStates.{Server, server_of, lives_of, evicted_of, shown_of}
 use Rattle.lu_covered.specs.TargetCloses.{disk_of}
 use Rattle.lu_guards.proofs.Guards.{In}
 use Rattle.lu_guards.proofs.StoryGuards.{EntryOf, IsServing, CommitOk}
+use Rattle.lu_guards.proofs.Acts.{made}
 use Rattle.lu_guards.proofs.Lists.{turn}
 use Rattle.lu_guards.proofs.Turns.{IsNoClose}
-use Rattle.lu_guards.proofs.LockLists.{Rises, rises_with, rises_all, rises_filter}
 use Rattle.lu_guards.proofs.LifeLists.{filter_parts, filter_swap, first_lives}
 use Rattle.lu_guards.proofs.TargetSlots.{SlotsAlike, slots_enter, slots_answer, slots_leave}
+pub use Rattle.lu_guards.proofs.TargetSame.{IsIdle, Alike}
+use Rattle.lu_guards.proofs.TargetSame.{alike_enters, alike_act, alike_txn, alike_grant, alike_promote, alike_wait, alike_answers, alike_asks, alike_ends, alike_block, alike_release}
 use Rattle.lu_guards.proofs.TargetStory.{Story, numbered, logged_above, story_start, story_client, story_commit, story_evict, story_release, story_still, story_line}
-
--- one of the whole table, and what the guards speak of
-abbrev pub Alike : (osts t : ℕ) → Target → Server → Type 0
-Alike osts t v s =
-    record {
-      id : v.setting.id ≡ t;
-      osts : v.setting.osts ≡ osts;
-      up : v.up ≡ true;
-      boot : v.boot ≡ s.boot;
-      closed : v.closed ≡ v.boot;
-      number : v.number ≡ numbered s;
-      cookie : v.cookie ≡ s.cookie;
-      tree : v.contents.tree ≡ s.tree;
-      log : v.log ≡ s.log;
-      committed : v.committed ≡ s.committed.0;
-      granted : v.granted ≡ s.granted;
-      waiting : v.waiting ≡ [];
-      called : v.called ≡ s.called;
-      queue : v.queue ≡ s.waiting;
-      glimpses : v.glimpses ≡ [];
-      rises : Rises s.granted;
-    }
 
 -- what a boot takes from the disk stands there
 abbrev pub OnDisk : Target → Type 0
@@ -82,145 +58,6 @@ pub record Serving (head : Head) (t : ℕ) (v : Target) (past : List Line) : Typ
 -- so the guards say that it serves
 pub serving_is : (head : Head) (t : ℕ) (v : Target) (past : List Line) → Serving head t v past → IsServing head.osts past
 serving_is head t v past h = h.phase
-
--- ---- one entry of its own
-
--- an operation that would change the tree is none on objects
-tree_done : (osts : ℕ) (c : Contents) (t : Transaction) (number : TxnOf) (who : Who) (o : Op) → changes osts c.tree (record { number = number; who = who; op = o }) ≡ true → t.op ≡ o
-    → (done_by osts t c o).tree ≡ tree_after osts c.tree (operation_of t)
-tree_done osts c t number who (op.Put r cookie at bytes) moves is = absurd (cc)
-tree_done osts c t number who (op.Cut r cookie n) moves is = absurd (cc)
-tree_done osts c t number who o moves is = refl
-
-module _ (osts t : ℕ) (v : Target) (s : Server) (h : Alike osts t v s) where
-  alike_enters : (r : RequestOf) → Alike osts t (after v (Enters r)) (server_after osts s (Enters r))
-  alike_enters r =
-      record {
-        id = h.id;
-        osts = h.osts;
-        up = h.up;
-        boot = h.boot;
-        closed = h.closed;
-        number = h.number;
-        cookie = h.cookie;
-        tree = h.tree;
-        log = h.log;
-        committed = h.committed;
-        granted = h.granted;
-        waiting = h.waiting;
-        called = h.called;
-        queue = ap (λ (rs : List RequestOf). rs ++ r ∷ []) h.queue;
-        glimpses = h.glimpses;
-        rises = h.rises;
-      }
-
-  alike_act : (d : Deed) → Alike osts t (after v (Act d)) (server_after osts s (Act d))
-  alike_act d =
-      record {
-        id = h.id;
-        osts = h.osts;
-        up = h.up;
-        boot = h.boot;
-        closed = h.closed;
-        number = h.number;
-        cookie = rw h.cookie refl;
-        tree = h.tree;
-        log = h.log;
-        committed = h.committed;
-        granted = rw h.granted refl;
-        waiting = h.waiting;
-        called = h.called;
-        queue = rw h.queue refl;
-        glimpses = h.glimpses;
-        rises = rises_all d.reply.locks s.granted h.rises;
-      }
-
-  alike_txn : (d : Deed) (r : RequestOf) → changes osts s.tree (asked r none) ≡ true → d.op ≡ r.op → d.reply.txn ≡ next_number s → d.reply.who ≡ r.who → Alike osts t (after v (Txn d)) (server_after osts s (Txn d))
-  alike_txn d r moves op_is number who =
-      record {
-        id = h.id;
-        osts = h.osts;
-        up = h.up;
-        boot = h.boot;
-        closed = h.closed;
-        number = ap (λ (x : TxnOf). x.0) number;
-        cookie = h.cookie;
-        tree =
-            ap (λ (x : Op). (done_by v.setting.osts (transaction_of d) v.contents x).tree) op_is
-            ∙ tree_done v.setting.osts v.contents (transaction_of d) none r.who r.op (rw (h.osts, h.tree) moves) op_is
-            ∙ rw (h.osts, h.tree) refl;
-        log = ap (λ (g : List Deed). g ++ d ∷ []) h.log;
-        committed = h.committed;
-        granted = h.granted;
-        waiting = h.waiting;
-        called = h.called;
-        queue = rw h.queue refl;
-        glimpses = h.glimpses;
-        rises = h.rises;
-      }
-
-  alike_grant : (lock : Lock) (d : Deed) → Alike osts t (after v (Grant lock (Some d))) (server_after osts s (Grant lock (Some d)))
-  alike_grant lock d =
-      record {
-        id = h.id;
-        osts = h.osts;
-        up = h.up;
-        boot = h.boot;
-        closed = h.closed;
-        number = h.number;
-        cookie = ap (λ (n : ℕ). max n lock.cookie.0) h.cookie;
-        tree = h.tree;
-        log = h.log;
-        committed = h.committed;
-        granted = ap (with_lock lock) h.granted;
-        waiting = ap (without_lock lock) h.waiting;
-        called = h.called;
-        queue = ap (without_request d) h.queue;
-        glimpses = h.glimpses;
-        rises = rises_with lock s.granted h.rises;
-      }
-
-  alike_block : (called : Called) → Alike osts t (after v (Block called)) (server_after osts s (Block called))
-  alike_block called =
-      record {
-        id = h.id;
-        osts = h.osts;
-        up = h.up;
-        boot = h.boot;
-        closed = h.closed;
-        number = h.number;
-        cookie = h.cookie;
-        tree = h.tree;
-        log = h.log;
-        committed = h.committed;
-        granted = h.granted;
-        waiting = h.waiting;
-        called = ap (λ (cs : List Called). cs ++ called ∷ []) h.called;
-        queue = h.queue;
-        glimpses = h.glimpses;
-        rises = h.rises;
-      }
-
-  alike_release : (lock : Lock) → Alike osts t (after v (Release lock)) (server_after osts s (Release lock))
-  alike_release lock =
-      record {
-        id = h.id;
-        osts = h.osts;
-        up = h.up;
-        boot = h.boot;
-        closed = h.closed;
-        number = h.number;
-        cookie = h.cookie;
-        tree = h.tree;
-        log = h.log;
-        committed = h.committed;
-        granted = ap (without_lock lock) h.granted;
-        waiting = h.waiting;
-        called = ap (called_without lock) h.called;
-        queue = h.queue;
-        glimpses = h.glimpses;
-        rises = rises_filter (λ k. not (nat_eq k.cookie.0 lock.cookie.0)) s.granted h.rises;
-      }
 
 -- but for commits, lives that leave and come, crashes and boots
 abbrev pub IsPlain : Entry → Type 0
@@ -279,7 +116,7 @@ serving_line head t past stamp e v plain ok h = by e plain ok (story_line head t
         }
     by (Txn d) plain ok story =
         record {
-          alike = alike_txn head.osts t v s a d ok.request ok.moves (ap (λ (x : Deed). x.op) ok.is) (ap (λ (x : Deed). x.reply.txn) ok.is) (ap (λ (x : Deed). x.reply.who) ok.is);
+          alike = alike_txn head.osts t v s a d (made head.osts past (turn stamp (node.Target t)) t d ok).number;
           story = story;
           slots = λ who tag live. slots_answer v.slots past d who tag (h.slots who tag live);
           lives = h.lives;
@@ -297,6 +134,66 @@ serving_line head t past stamp e v plain ok h = by e plain ok (story_line head t
           lives = h.lives;
           removed = h.removed;
           shown = ap (with_lock lock) h.shown;
+          phase = h.phase;
+          disk = h.disk;
+          stored = h.stored;
+        }
+    by (Grant lock None) plain ok story =
+        record {
+          alike = alike_promote head.osts t v s a lock;
+          story = story;
+          slots = h.slots;
+          lives = h.lives;
+          removed = h.removed;
+          shown = ap (with_lock lock) h.shown;
+          phase = h.phase;
+          disk = h.disk;
+          stored = h.stored;
+        }
+    by (Wait lock d) plain ok story =
+        record {
+          alike = alike_wait head.osts t v s a ok.0 lock d;
+          story = story;
+          slots = λ who tag live. slots_answer v.slots past d who tag (h.slots who tag live);
+          lives = h.lives;
+          removed = h.removed;
+          shown = h.shown;
+          phase = h.phase;
+          disk = h.disk;
+          stored = h.stored;
+        }
+    by (Answers d) plain ok story =
+        record {
+          alike = alike_answers head.osts t v s a d;
+          story = story;
+          slots = λ who tag live. slots_answer v.slots past d who tag (h.slots who tag live);
+          lives = h.lives;
+          removed = h.removed;
+          shown = h.shown;
+          phase = h.phase;
+          disk = h.disk;
+          stored = h.stored;
+        }
+    by (Asks g) plain ok story =
+        record {
+          alike = alike_asks head.osts t v s a ok.0 g;
+          story = story;
+          slots = h.slots;
+          lives = h.lives;
+          removed = h.removed;
+          shown = h.shown;
+          phase = h.phase;
+          disk = h.disk;
+          stored = h.stored;
+        }
+    by (Ends g) plain ok story =
+        record {
+          alike = alike_ends head.osts t v s a g;
+          story = story;
+          slots = h.slots;
+          lives = h.lives;
+          removed = h.removed;
+          shown = h.shown;
           phase = h.phase;
           disk = h.disk;
           stored = h.stored;
@@ -324,6 +221,10 @@ pub forgotten_tree : (gone : List Who) (c : Contents) → (forgotten gone c).tre
 forgotten_tree [] c = refl
 forgotten_tree (who ∷ gone) c = forgotten_tree gone (record c { tree = forget c.tree who })
 
+pub forgotten_objects : (gone : List Who) (c : Contents) → (forgotten gone c).objects ≡ c.objects
+forgotten_objects [] c = refl
+forgotten_objects (who ∷ gone) c = forgotten_objects gone (record c { tree = forget c.tree who })
+
 -- the target is without those that leave, and with those that come
 pub record Window (head : Head) (t : ℕ) (gone come : List Who) (v : Target) (past : List Line) : Type 0 where
   pub id : v.setting.id ≡ t
@@ -337,10 +238,12 @@ pub record Window (head : Head) (t : ℕ) (gone come : List Who) (v : Target) (p
   pub log : v.log ≡ (server_of head.osts past).log
   pub committed : v.committed ≡ (server_of head.osts past).committed.0
   pub granted : v.granted ≡ locks_without gone (server_of head.osts past).granted
-  pub waiting : v.waiting ≡ []
+  pub waiting : v.waiting ≡ locks_without gone (server_of head.osts past).queued
   pub called : v.called ≡ filter (λ (c : Called). not (is_life c.who gone)) (server_of head.osts past).called
   pub queue : v.queue ≡ filter (λ (r : RequestOf). not (is_life r.who gone)) (server_of head.osts past).waiting
-  pub glimpses : v.glimpses ≡ []
+  pub glimpses : v.glimpses ≡ filter (λ (g : Glimpse). not (is_life g.request.who gone)) (server_of head.osts past).glimpses
+  pub objects : v.contents.objects ≡ (server_of head.osts past).objects
+  pub names : IsIdle t (server_of head.osts past)
   pub story : Story head past
   pub slots : SlotsAlike v.slots v.removed past
   pub lives : v.lives ≡ with_lives come (without_lives gone (lives_of head.clients past))
@@ -385,10 +288,12 @@ window_commit head t past stamp deeds gone come v logged ok h =
       log = ap (λ (g : List Deed). filter (λ (d : Deed). nat_lt to d.reply.txn.0) g) a.log;
       committed = refl;
       granted = ap (locks_without batch.removed) a.granted;
-      waiting = rw a.waiting refl;
+      waiting = ap (locks_without batch.removed) a.waiting;
       called = ap (λ (cs : List Called). filter (λ (c : Called). not (is_life c.who batch.removed)) cs) a.called;
       queue = ap (λ (rs : List RequestOf). filter (λ (r : RequestOf). not (is_life r.who batch.removed)) rs) a.queue;
-      glimpses = rw a.glimpses refl;
+      glimpses = ap (filter (λ (g : Glimpse). not (is_life g.request.who batch.removed))) a.glimpses;
+      objects = forgotten_objects batch.removed v.contents ∙ a.objects;
+      names = a.names;
       story = story_commit head t past stamp h.story to batch ok;
       slots = slots_leave batch.removed v.slots v.removed past h.slots;
       lives = ap (λ (ws : List Who). with_lives batch.added (without_lives batch.removed ws)) h.lives;
@@ -427,10 +332,12 @@ window_evict head t past stamp who cause gone come v was h =
       log = h.log;
       committed = h.committed;
       granted = h.granted ∙ gone_one (λ (l : Lock). l.ask.who) who gone s.granted;
-      waiting = h.waiting;
+      waiting = h.waiting ∙ gone_one (λ (l : Lock). l.ask.who) who gone s.queued;
       called = h.called ∙ gone_one (λ (c : Called). c.who) who gone s.called;
       queue = h.queue ∙ gone_one (λ (r : RequestOf). r.who) who gone s.waiting;
-      glimpses = h.glimpses;
+      glimpses = h.glimpses ∙ gone_one (λ (g : Glimpse). g.request.who) who gone s.glimpses;
+      objects = h.objects;
+      names = λ z. (ap (locks_without (who ∷ [])) (h.names z).0, ap (filter (λ (g : Glimpse). not (is_life g.request.who (who ∷ [])))) (h.names z).1);
       story = story_evict head t past stamp h.story who cause was;
       slots = h.slots;
       lives = h.lives ∙ ap (with_lives come) (gone_one (λ (w : Who). w) who gone (lives_of head.clients past));
@@ -461,8 +368,74 @@ window_release head t past stamp lock gone come v h =
       called = ap (called_without lock) h.called ∙ filter_swap (λ (c : Called). not (nat_eq c.cookie.0 lock.cookie.0)) (λ (c : Called). not (is_life c.who gone)) s.called;
       queue = h.queue;
       glimpses = h.glimpses;
+      objects = h.objects;
+      names = h.names;
       story = story_release head t past stamp h.story lock;
       slots = h.slots;
+      lives = h.lives;
+      removed = h.removed;
+      phase = h.phase;
+      disk = h.disk;
+      stored = h.stored;
+    }
+
+-- a glimpse waits no longer
+pub window_ends : (head : Head) (t : ℕ) (past : List Line) (stamp : Stamp) (g : Glimpse) (gone come : List Who) (v : Target) → EntryOf head past (turn stamp (node.Target t)) (node.Target t) (Ends g) → Window head t gone come v past
+    → Window head t gone come (after v (Ends g)) (line (turn stamp (node.Target t)) (Ends g) ∷ past)
+window_ends head t past stamp g gone come v ok h =
+    let s : Server = server_of head.osts past in
+    record {
+      id = h.id;
+      osts = h.osts;
+      up = h.up;
+      boot = h.boot;
+      closed = h.closed;
+      number = h.number;
+      cookie = h.cookie;
+      tree = h.tree;
+      log = h.log;
+      committed = h.committed;
+      granted = h.granted;
+      waiting = h.waiting;
+      called = h.called;
+      queue = h.queue;
+      glimpses = ap (filter (λ (x : Glimpse). not (same_glimpse g x))) h.glimpses ∙ filter_swap (λ (x : Glimpse). not (same_glimpse g x)) (λ (x : Glimpse). not (is_life x.request.who gone)) s.glimpses;
+      objects = h.objects;
+      names = λ z. ((h.names z).0, ap (filter (λ (x : Glimpse). not (same_glimpse g x))) (h.names z).1);
+      story = story_line head t past stamp (Ends g) tt ok h.story;
+      slots = h.slots;
+      lives = h.lives;
+      removed = h.removed;
+      phase = h.phase;
+      disk = h.disk;
+      stored = h.stored;
+    }
+
+-- a request is answered without a printed line
+pub window_answers : (head : Head) (t : ℕ) (past : List Line) (stamp : Stamp) (d : Deed) (gone come : List Who) (v : Target) → EntryOf head past (turn stamp (node.Target t)) (node.Target t) (Answers d) → Window head t gone come v past
+    → Window head t gone come (after v (Answers d)) (line (turn stamp (node.Target t)) (Answers d) ∷ past)
+window_answers head t past stamp d gone come v ok h =
+    let s : Server = server_of head.osts past in
+    record {
+      id = h.id;
+      osts = h.osts;
+      up = h.up;
+      boot = h.boot;
+      closed = h.closed;
+      number = h.number;
+      cookie = h.cookie;
+      tree = h.tree;
+      log = h.log;
+      committed = h.committed;
+      granted = h.granted;
+      waiting = h.waiting;
+      called = h.called;
+      queue = ap (without_request d) h.queue ∙ filter_swap (λ (r : RequestOf). not (is_request_of d r)) (λ (r : RequestOf). not (is_life r.who gone)) s.waiting;
+      glimpses = h.glimpses;
+      objects = h.objects;
+      names = h.names;
+      story = story_line head t past stamp (Answers d) tt ok h.story;
+      slots = λ who tag live. slots_answer v.slots past d who tag (h.slots who tag live);
       lives = h.lives;
       removed = h.removed;
       phase = h.phase;
@@ -490,6 +463,8 @@ window_send head t past stamp to m gone come v h =
       called = h.called;
       queue = h.queue;
       glimpses = h.glimpses;
+      objects = h.objects;
+      names = h.names;
       story = story_still head t past stamp h.story (Send to m) refl refl refl;
       slots = h.slots;
       lives = h.lives;
@@ -523,6 +498,8 @@ window_joined head t past stamp who come v ok h =
       called = h.called;
       queue = h.queue;
       glimpses = h.glimpses;
+      objects = h.objects;
+      names = h.names;
       story = story_line head t past stamp (Joined who) tt ok h.story;
       slots = h.slots;
       lives = h.lives ∙ ap (λ (ws : List Who). with_lives come (with_life who ws)) (all_stay (lives_of head.clients past)) ∙ ap (with_lives come) (sym (all_stay (with_life who (lives_of head.clients past))));
@@ -550,10 +527,12 @@ window_closed head t past v shown h =
             log = h.log;
             committed = h.committed;
             granted = h.granted ∙ all_stay s.granted;
-            waiting = h.waiting;
+            waiting = h.waiting ∙ all_stay s.queued;
             called = h.called ∙ all_stay s.called;
             queue = h.queue ∙ all_stay s.waiting;
-            glimpses = h.glimpses;
+            glimpses = h.glimpses ∙ all_stay s.glimpses;
+            objects = h.objects;
+            names = h.names;
             rises = h.story.rises;
           };
       story = h.story;
@@ -588,6 +567,8 @@ serving_start head setting o =
             called = refl;
             queue = refl;
             glimpses = refl;
+            objects = refl;
+            names = λ z. (refl, refl);
             rises = tt;
           };
       story = story_start head;

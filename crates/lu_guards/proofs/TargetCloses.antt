@@ -38,7 +38,7 @@ use Rattle.lu_guards.proofs.LockLists.{Rises, Stands, in_above, rises_filter, st
 use Rattle.lu_guards.proofs.CloseLists.{put_each, puts_more, stays_all}
 use Rattle.lu_guards.proofs.TargetSlots.{slots_leave}
 use Rattle.lu_guards.proofs.TargetStory.{Story, story_apart, story_commit, story_still}
-use Rattle.lu_guards.proofs.TargetAlike.{OnDisk, Window, forgotten_tree, window_is, window_evict, window_send, window_joined, window_closed}
+use Rattle.lu_guards.proofs.TargetAlike.{OnDisk, Window, forgotten_tree, forgotten_objects, window_is, window_evict, window_send, window_joined, window_closed}
 use Rattle.lu_guards.proofs.TargetCrashed.{Crashed, Asked, Leads, Calm, Undue}
 use Rattle.lu_guards.proofs.Sound.{Sound, sound_of, story_close, restored_stays}
 use Rattle.lu_guards.proofs.Turns.{Settled, owes_nothing, NoBack}
@@ -164,6 +164,8 @@ module _ (head : Head) (stamp : Stamp) (t : ℕ) where
         number = h.number;
         cookie = h.cookie;
         tree = h.tree;
+        objects = h.objects;
+        names = h.names;
         log = h.log;
         committed = h.committed;
         granted = h.granted;
@@ -192,6 +194,8 @@ module _ (head : Head) (stamp : Stamp) (t : ℕ) where
         number = h.number;
         cookie = h.cookie;
         tree = h.tree;
+        objects = h.objects;
+        names = h.names;
         log = h.log;
         committed = h.committed;
         granted = ap (with_lock lock) h.granted ∙ stands_same lock (locks_without gone locks) (rises_stands lock (locks_without gone locks) (rises_filter (λ (k : Lock). not (is_life k.ask.who gone)) locks h.story.rises) (in_filtered (λ (k : Lock). not (is_life k.ask.who gone)) lock locks there (ap not stays)));
@@ -484,6 +488,8 @@ module _ (head : Head) (stamp : Stamp) (t : ℕ) where
                 number = h.number;
                 cookie = h.cookie;
                 tree = forgotten_tree gone o.disk.contents;
+                objects = forgotten_objects gone o.disk.contents;
+                names = λ e. (refl, refl);
                 log = refl;
                 committed = refl;
                 granted = refl;

@@ -1,7 +1,8 @@
 -- Lives that leave a target: with one commit of all, and then life by life its line, the notice, and the releases of the locks that it
--- had. All these lines are allowed, and after them the target is again what its story says.
-use Rattle.std.proofs.Common.{◌≡◌, ℕ, true, List, [], ◌∷◌, ◌⊎◌, inl, inr, refl, sym, subst, ap, ◌∙◌, arith}
-use Rattle.std.specs.Prelude.{nat_lt, not}
+-- had, each with the answers to those who waited for its holder. All these lines are allowed, and after them the target is again what its
+-- story says.
+use Rattle.std.proofs.Common.{◌≡◌, ℕ, zero, suc, ◌<◌, Bool, true, List, [], ◌∷◌, ◌⊎◌, inl, inr, refl, sym, subst, ap, ◌∙◌, arith}
+use Rattle.std.specs.Prelude.{nat_eq, nat_lt, not}
 use Rattle.std.specs.List.{filter}
 use Rattle.lu_base.specs.declared.ids.At.{At}
 use Rattle.lu_base.specs.declared.ids.Node.{Node}
@@ -14,22 +15,25 @@ use Rattle.lu_base.specs.declared.locks.Lock.{Lock}
 use Rattle.lu_msg.specs.declared.messages.Message.{Message}
 use Rattle.lu_msg.specs.declared.messages.Message.TheVariants as message
 use Rattle.lu_words.specs.Carried.{Deed, Glimpse}
-use Rattle.lu_words.specs.Words.{Entry, Take, Send, Boot, Close, Block, Release, Evict, Line, line, with_turn, same_life}
+use Rattle.lu_words.specs.Words.{Entry, Take, Send, Boot, Close, Block, Answers, Ends, Release, Evict, Line, line, with_turn, same_life}
 use Rattle.lu_words.specs.Concerns.{only}
 use Rattle.lu_target_rows.specs.Glimpses.{glimpses_of, glimpses_end}
 use Rattle.lu_target_rows.specs.Leaving.{commits, evicted, evictions, all_released, locks_of, last_of}
 use Rattle.lu_target_rows.specs.Lives.{is_life, with_lives, without_lives}
 use Rattle.lu_target_rows.specs.Locks.{without_lock}
-use Rattle.lu_target_rows.specs.States.{Target, after, follow, turn as turned}
+use Rattle.lu_target_rows.specs.Requests.{releases}
+use Rattle.lu_target_rows.specs.States.{Target, after, turn as turned}
 use Rattle.lu_target_rows.specs.Stored.{batch_of}
 use Rattle.lu_covered.specs.Heads.{Head}
-use Rattle.lu_covered.specs.TargetStates.{server_of, lives_of, evicted_of, shown_of}
+use Rattle.lu_covered.specs.TargetStates.{Server, server_of, lives_of, evicted_of, shown_of}
 use Rattle.lu_guards.proofs.Guards.{In, Took, InTurn, IsEvict, IsCommit}
-use Rattle.lu_guards.proofs.StoryGuards.{CalledBefore, TookSince, EvictedBy, CommitOk, IsServing}
+use Rattle.lu_guards.proofs.StoryGuards.{CalledBefore, TookSince, EvictedBy, CommitOk, IsServing, EntryOf}
 use Rattle.lu_guards.proofs.Lists.{turn, in_filter, life_is}
 use Rattle.lu_guards.proofs.LifeLists.{Distinct, life_put, life_stays, all_without, all_released_is, left_without, others_stay, in_without}
 use Rattle.lu_guards.proofs.LockLists.{Rises, in_above, rises_filter}
-use Rattle.lu_guards.proofs.TargetAlike.{Serving, Window, serving_is, window_is, window_commit, window_evict, window_release, window_send, gone_one}
+use Rattle.lu_guards.proofs.QueueLists.{Single, single_filter}
+use Rattle.lu_guards.proofs.TargetAlike.{Serving, Window, serving_is, window_is, window_commit, window_evict, window_release, window_ends, window_answers, window_send, gone_one}
+use Rattle.lu_guards.proofs.TargetGlimpses.{Middle, released_lead}
 use Rattle.lu_guards.proofs.TargetGood.{Reaches, reaches_more, story_turn}
 use Rattle.lu_guards.proofs.TargetStory.{Story, Logged, IsFirst, numbered, all_logged, first_in, first_all, first_upto}
 use Rattle.lu_guards.proofs.Turns.{Settled, owes_nothing, IsNoClose}
@@ -86,18 +90,9 @@ commit_ok head past at deeds removed added committed h first is serves = record 
     upto : filter (λ (d : Deed). not (nat_lt (last_of deeds committed) d.reply.txn.0)) (server_of head.osts past).log ≡ deeds
     upto = first_upto committed deeds (server_of head.osts past).log (numbered (server_of head.osts past)) (subst (λ (n : ℕ). Logged n (server_of head.osts past).log (numbered (server_of head.osts past))) (sym is) h.logged) first
 
--- ---- the releases of a life's locks
-
-abbrev releases_of : List Lock → List Entry
-releases_of [] = []
-releases_of (l ∷ locks) = Release l ∷ releases_of locks
-
--- no glimpse waits for them
-released_is : (at : At) (locks : List Lock) (v : Target) → v.glimpses ≡ [] → all_released at locks v ≡ releases_of locks
-released_is at [] v none = refl
-released_is at (l ∷ locks) v none =
-    ap (λ (gs : List Glimpse). follow v (Release l ∷ glimpses_end at (glimpses_of l gs) v) (all_released at locks)) none
-    ∙ ap (λ (es : List Entry). Release l ∷ es) (released_is at locks (after v (Release l)) none)
+zero_or : (t : ℕ) → (t ≡ 0) ⊎ (0 < t)
+zero_or zero = inl refl
+zero_or (suc t) = inr (omega arith)
 
 -- ---- in the middle of it
 
@@ -194,6 +189,43 @@ module _ (head : Head) (stamp : Stamp) (t : ℕ) (cause : Cause) (old : List Loc
         carried = keeps (Send to m) story tt h.carried;
       }
 
+  -- a glimpse ends, and who waited is answered
+  leave_ends : (g : Glimpse) (gone : List Who) (locks : List Lock) (v : Target) (story : List Line) → EntryOf head story at (node.Target t) (Ends g) → Leaves gone locks v story → Leaves gone locks (after v (Ends g)) (line at (Ends g) ∷ story)
+  leave_ends g gone locks v story ok h =
+      record {
+        window = window_ends head t story stamp g gone come v ok h.window;
+        shown = h.shown;
+        due = λ l i. let d = h.due l i in record { evicted = d.evicted; turned = inr d.turned; still = d.still; shown = d.shown };
+        rises = h.rises;
+        same = h.same;
+        has = h.has;
+        distinct = h.distinct;
+        commits = inr h.commits;
+        logged = h.logged;
+        caused = λ x i. evicted_more (line at (Ends g)) story at x cause tt (h.caused x i);
+        left = h.left;
+        over = h.over;
+        carried = keeps (Ends g) story tt h.carried;
+      }
+
+  leave_answers : (d : Deed) (gone : List Who) (locks : List Lock) (v : Target) (story : List Line) → EntryOf head story at (node.Target t) (Answers d) → Leaves gone locks v story → Leaves gone locks (after v (Answers d)) (line at (Answers d) ∷ story)
+  leave_answers d gone locks v story ok h =
+      record {
+        window = window_answers head t story stamp d gone come v ok h.window;
+        shown = h.shown;
+        due = λ l i. let d = h.due l i in record { evicted = d.evicted; turned = inr d.turned; still = d.still; shown = d.shown };
+        rises = h.rises;
+        same = h.same;
+        has = h.has;
+        distinct = h.distinct;
+        commits = inr h.commits;
+        logged = h.logged;
+        caused = λ x i. evicted_more (line at (Answers d)) story at x cause tt (h.caused x i);
+        left = h.left;
+        over = h.over;
+        carried = keeps (Answers d) story tt h.carried;
+      }
+
   -- a lock is released
   leave_release : (lock : Lock) (gone : List Who) (locks : List Lock) (v : Target) (story : List Line) → Leaves gone (lock ∷ locks) v story → Leaves gone locks (after v (Release lock)) (line at (Release lock) ∷ story)
   leave_release lock gone locks v story h =
@@ -228,22 +260,68 @@ module _ (head : Head) (stamp : Stamp) (t : ℕ) (cause : Cause) (old : List Loc
             shown = in_without lock k (shown_of story) d.shown (λ e. let lt = in_above lock.cookie.0 locks k h.rises.0 i in absurd (omega (arith, lt, e)));
           }
 
-  releases_lead : (gone : List Who) (locks : List Lock) (past story : List Line) (v : Target) → story ≡ only t past → Settled past → Leaves gone locks v story
-      → Reaches head stamp t past story v (releases_of locks) (λ w p. Leaves gone [] w p)
-  releases_lead gone [] past story v is settled h = (settled, h)
-  releases_lead gone (l ∷ locks) past story v is settled h =
-      let d = h.due l (inl refl) in
-      let more = releases_lead gone locks (line at (Release l) ∷ past) (line at (Release l) ∷ story) (after v (Release l)) (story_turn head stamp t (Release l ∷ []) past story is) tt (leave_release l gone locks v story h) in (
+  middle : (above : 0 < t) (gone : List Who) (locks : List Lock) → Middle head stamp t above (Leaves gone locks)
+  middle above gone locks =
+      record {
+        story = λ w p k. k.window.story;
+        serves = λ w p k. window_is head t gone come w p k.window;
+        ends = λ g w p ok k. leave_ends g gone locks w p ok k;
+        answers = λ d w p ok k. leave_answers d gone locks w p ok k;
+        replies = λ d w p ok k. leave_send (node.Client d.reply.who.client) (message.Reply d.reply) gone locks w p k;
+      }
+
+  -- a lock is released, and each who waited for its holder is answered; at the metadata target none does
+  release_lead : (gone : List Who) (lock : Lock) (locks : List Lock) (past story : List Line) (v : Target) → story ≡ only t past → Settled past → Leaves gone (lock ∷ locks) v story
+      → Reaches head stamp t past story v (releases at lock v) (λ w p. Leaves gone locks w p)
+  release_lead gone lock locks past story v is settled h =
+      let d = h.due lock (inl refl) in
+      let more = rest (zero_or t) in (
         (
           (
-            owes_nothing past at (Release l) settled,
-            inr (subst (λ (p : List Line). InTurn (IsEvict l.ask.who) p at) is d.turned),
+            owes_nothing past at (Release lock) settled,
+            inr (subst (λ (p : List Line). InTurn (IsEvict lock.ask.who) p at) is d.turned),
             (window_is head t gone come v story h.window, inr (record { evicted = d.evicted; still = d.still; shown = d.shown })),
           ),
           more.0,
         ),
         more.1,
       )
+    where
+      s : Server
+      s = server_of head.osts story
+
+      w : Target
+      w = after v (Release lock)
+
+      past1 : List Line
+      past1 = line at (Release lock) ∷ past
+
+      story1 : List Line
+      story1 = line at (Release lock) ∷ story
+
+      of_lock : Glimpse → Bool
+      of_lock g = nat_eq g.cookie.0 lock.cookie.0
+
+      stays : Glimpse → Bool
+      stays g = not (is_life g.request.who gone)
+
+      rest : (t ≡ 0) ⊎ (0 < t) → Reaches head stamp t past1 story1 w (glimpses_end at (glimpses_of lock v.glimpses) v) (λ x p. Leaves gone locks x p)
+      rest (inl first) =
+          subst (λ (gs : List Glimpse). Reaches head stamp t past1 story1 w (glimpses_end at (glimpses_of lock gs) v) (λ x p. Leaves gone locks x p))
+          (sym (h.window.glimpses ∙ ap (filter stays) (h.window.names first).1)) (tt, leave_release lock gone locks v story h)
+      rest (inr above) =
+          released_lead head stamp t above (Leaves gone locks) (middle above gone locks) v lock (glimpses_of lock v.glimpses) past1 story1 w (story_turn head stamp t (Release lock ∷ []) past story is) tt (leave_release lock gone locks v story h)
+          h.window.boot h.window.committed h.window.log (inl (refl, refl))
+          (λ g i. let f = in_filter of_lock g v.glimpses i in ((in_filter stays g s.glimpses (subst (λ (gs : List Glimpse). In g gs) h.window.glimpses f.0)).0, f.1))
+          (single_filter of_lock v.glimpses (subst Single (sym h.window.glimpses) (single_filter stays s.glimpses h.window.story.waits_so.once)))
+
+  releases_lead : (gone : List Who) (locks : List Lock) (past story : List Line) (v : Target) → story ≡ only t past → Settled past → Leaves gone locks v story
+      → Reaches head stamp t past story v (all_released at locks v) (λ w p. Leaves gone [] w p)
+  releases_lead gone [] past story v is settled h = (settled, h)
+  releases_lead gone (l ∷ locks) past story v is settled h =
+      let es = releases at l v in
+      reaches_more head stamp t (λ w p. Leaves gone locks w p) (λ w p. Leaves gone [] w p) es (all_released at locks) past story v is (release_lead gone l locks past story v is settled h)
+      (λ e s k. releases_lead gone locks (with_turn at es past) (with_turn at es story) (turned v es) e s k)
 
   -- one life
   leaves_lead : (who : Who) (gone : List Who) (past story : List Line) (v : Target) → story ≡ only t past → Settled past → Leaves (who ∷ gone) [] v story
@@ -252,8 +330,7 @@ module _ (head : Head) (stamp : Stamp) (t : ℕ) (cause : Cause) (old : List Loc
       let out = leave_evict who gone v story h in
       let told = leave_send (node.Client who.client) (message.Evicted who v.boot) gone (locks_of who old) v (line at (Evict who cause) ∷ story) out in
       let more = releases_lead gone (locks_of who old) (line at (evicted v who) ∷ line at (Evict who cause) ∷ past) (line at (evicted v who) ∷ line at (Evict who cause) ∷ story) v
-      (story_turn head stamp t (Evict who cause ∷ evicted v who ∷ []) past story is) tt told in
-      subst (λ (es : List Entry). Reaches head stamp t past story v (Evict who cause ∷ evicted v who ∷ es) (λ w p. Leaves gone [] w p)) (sym (released_is at (locks_of who old) v h.window.glimpses)) (
+      (story_turn head stamp t (Evict who cause ∷ evicted v who ∷ []) past story is) tt told in (
         (
           (
             owes_nothing past at (Evict who cause) settled,

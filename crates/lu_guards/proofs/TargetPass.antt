@@ -16,12 +16,12 @@ use Rattle.lu_part.specs.declared.parts.Part.{Part}
 use Rattle.lu_machine.specs.Footprint.{Operation, changes, grants}
 use Rattle.lu_machine.specs.Tree.{Tree}
 use Rattle.lu_machine.proofs.Transactions.{readings_change_nothing}
-use Rattle.lu_words.specs.Carried.{Deed, Slot, Called}
+use Rattle.lu_words.specs.Carried.{Deed, Slot, Called, Glimpse}
 use Rattle.lu_words.specs.Words.{Entry, Take, Act, Txn, Grant, Block, Line, line, with_turn}
 use Rattle.lu_words.specs.Concerns.{only}
 use Rattle.lu_target_rows.specs.Names as rows
 use Rattle.lu_target_rows.specs.Names.{does_change, guards_part, in_way, is_free, is_read, is_ready, grant_lines, names_deed, names_go, row_acts, row_transacts, row_executes, row_waits, row_pass, row_sweep}
-use Rattle.lu_target_rows.specs.Locks.{with_lock}
+use Rattle.lu_target_rows.specs.Locks.{with_lock, without_lock}
 use Rattle.lu_target_rows.specs.Phase.{greatest_cookie}
 use Rattle.lu_target_rows.specs.Replies as kept
 use Rattle.lu_target_rows.specs.Replies.{blocks, block_of, called, is_called, replies}
@@ -34,7 +34,7 @@ use Rattle.lu_guards.proofs.Guards.{In, Did, Shows, AllShown, Taken, Owes}
 use Rattle.lu_guards.proofs.StoryGuards.{GrantOk, IsServing}
 use Rattle.lu_guards.proofs.Lists.{turn, in_filter}
 use Rattle.lu_guards.proofs.LockLists.{Rises, in_above, rises_filter, granted_stands, stands_same, greatest_least, greatest_same, called_beside, called_now, filter_twice}
-use Rattle.lu_guards.proofs.TargetAlike.{Alike, Serving, AllPlain, serving_is}
+use Rattle.lu_guards.proofs.TargetAlike.{IsIdle, Alike, Serving, AllPlain, serving_is}
 use Rattle.lu_guards.proofs.TargetGood.{GoodAt, Reaches, serves_lines, reaches_more, turned_more}
 use Rattle.lu_guards.proofs.TargetSlots.{is_slot_self}
 use Rattle.lu_guards.proofs.Turns.{Settled, owes_nothing}
@@ -148,7 +148,7 @@ module _ (head : Head) (stamp : Stamp) where
   transacts_good past r serves settled waits moves free numbers =
       let s = server past in
       let d = deed head.osts s here r (next_number s) [] in (
-        (owes_nothing past here (Txn d) settled, refl, record { serves = serves; numbers = numbers; request = r; waits = waits; moves = moves; free = free; is = refl }),
+        (owes_nothing past here (Txn d) settled, inl refl, inl (refl, record { serves = serves; numbers = numbers; request = r; waits = waits; moves = moves; free = free; is = refl })),
         reply_good (line here (Txn d) ∷ past) d serves (refl, refl) refl refl tt
             (λ e did lock i. absurd (subst (λ (x : Deed). In lock x.reply.locks) (sym did) i))
             (slot_answered d (slot_of r.who r.tag (only 0 past)))
@@ -166,6 +166,7 @@ module _ (head : Head) (stamp : Stamp) where
         granted = ap (with_lock l) before.granted ∙ ok.granted ∙ sym before.granted;
         cookie = ap (λ (n : ℕ). max n l.cookie.0) before.cookie ∙ ok.cookie ∙ sym before.cookie;
         waiting = ap (without_request d) before.waiting ∙ ok.waiting ∙ sym before.waiting;
+        queued = ap (without_lock l) before.queued ∙ ok.queued ∙ sym before.queued;
         slot = slot_answered d (slot_of d.reply.who d.tag past);
       }
 
@@ -220,10 +221,10 @@ module _ (head : Head) (stamp : Stamp) where
     shown_again [] past is = is
     shown_again (l ∷ locks) past is = shown_again locks (line here (Grant l (Some d)) ∷ past) is
 
-  acts_good : (past : List Line) (r : RequestOf) → IsServing head.osts (only 0 past) → Settled past → In r (server past).waiting → changes head.osts (server past).tree (asked r none) ≡ false → greatest_cookie (server past).cookie (locks_of head.osts (server past) r) ≤ (server past).boot * 4294967296 + 4294967295
+  acts_good : (past : List Line) (r : RequestOf) → IsServing head.osts (only 0 past) → IsIdle 0 (server past) → Settled past → In r (server past).waiting → changes head.osts (server past).tree (asked r none) ≡ false → greatest_cookie (server past).cookie (locks_of head.osts (server past) r) ≤ (server past).boot * 4294967296 + 4294967295
       → Good past (row_acts (deed head.osts (server past) here r none (locks_of head.osts (server past) r)))
-  acts_good past r serves settled waits still room = (
-    (owes_nothing past here (Act d) settled, tt, inl (refl, record { serves = serves; room = room; request = r; waits = waits; still = still; is = refl })),
+  acts_good past r serves idle settled waits still room = (
+    (owes_nothing past here (Act d) settled, inl refl, inl (refl, record { serves = serves; room = room; request = r; waits = waits; still = still; unasked = λ g i. absurd (subst (λ (gs : List Glimpse). In g gs) (idle refl).1 i); is = refl })),
     grants_good d d.reply.locks done (replies d ∷ []) refl refl (λ l. refl) grant_ok (
         reply_good (with_turn here (grant_lines d d.reply.locks) done) d (shown_serves d d.reply.locks done serves)
         (shown_owes d d.reply.locks done refl (refl, refl))
@@ -253,6 +254,7 @@ module _ (head : Head) (stamp : Stamp) where
             granted = stands_same l (server done).granted (granted_stands s.cookie r.who (grants head.osts s.tree (asked r none)) s.granted l i);
             cookie = greatest_same s.cookie d.reply.locks l i;
             waiting = filter_twice (λ q. not (is_request_of d q)) s.waiting;
+            queued = ap (without_lock l) (idle refl).0 ∙ sym (idle refl).0;
             slot = slot_answered d (slot_of r.who r.tag (only 0 past));
           }
 
@@ -281,7 +283,7 @@ module _ (head : Head) (stamp : Stamp) where
           )
       by false e =
           subst (λ (es : List Entry). Good past es) (sym (acts_same head.osts 0 v s a here r)) (
-          acts_good past r (serving_is head 0 v (only 0 past) h) settled in_waiting (sym (change_same head.osts 0 v s a r) ∙ e)
+          acts_good past r (serving_is head 0 v (only 0 past) h) a.names settled in_waiting (sym (change_same head.osts 0 v s a r) ∙ e)
           (let top = room e in let boot = a.boot in let same : greatest_cookie v.cookie (rows.locks_for v r) ≡ greatest_cookie s.cookie (locks_of head.osts s r) = ap (λ (n : ℕ). greatest_cookie n (rows.locks_for v r)) a.cookie ∙ ap (greatest_cookie s.cookie) (locks_same head.osts 0 v s a r) in omega (arith, top, boot, same))
           )
 
@@ -299,24 +301,27 @@ module _ (head : Head) (stamp : Stamp) where
       (λ e. (
         (
           owes_nothing past here (Block c) settled,
-          refl,
-          record {
-            serves = serves;
-            lock = l;
-            granted = granted l (inl refl);
-            of_cookie = refl;
-            of_life = refl;
-            new = sym (same l (inl refl)) ∙ e;
-            request = r;
-            waits = waits;
-            modifies = modifies;
-            for_it = for_it l (inl refl);
-          },
+          tt,
+          inl (
+            refl,
+            record {
+              serves = serves;
+              lock = l;
+              granted = granted l (inl refl);
+              of_cookie = refl;
+              of_life = refl;
+              new = sym (same l (inl refl)) ∙ e;
+              request = r;
+              waits = waits;
+              modifies = modifies;
+              for_it = for_it l (inl refl);
+            },
+          ),
         ),
         (
           (
             tt,
-            refl,
+            tt,
             record {
               serves = serves;
               lock = l;
@@ -357,10 +362,10 @@ module _ (head : Head) (stamp : Stamp) where
 
 -- ---- what the lines of a pass leave: the list of requests while locks are called back, numbers, and the boot
 
-abbrev Leaves : Target → Target → Type 0
+abbrev pub Leaves : Target → Target → Type 0
 Leaves v w = (w.queue ≡ v.queue) × (w.number ≡ v.number) × (w.boot ≡ v.boot) × (w.cookie ≡ v.cookie)
 
-blocks_leave : (v : Target) (locks : List Lock) (w : Target) → Leaves w (turned w (blocks v locks))
+pub blocks_leave : (v : Target) (locks : List Lock) (w : Target) → Leaves w (turned w (blocks v locks))
 blocks_leave v [] w = (refl, refl, refl, refl)
 blocks_leave v (l ∷ locks) w =
     cond_both (is_called l.cookie v.called) (blocks v locks) (Block (called v l) ∷ block_of v l ∷ blocks v locks) (λ (es : List Entry). Leaves w (turned w es))
@@ -442,7 +447,7 @@ plain_executes : (v : Target) (at : At) (r : RequestOf) (b : Bool) → AllPlain 
 plain_executes v at r true = (tt, (tt, tt))
 plain_executes v at r false = let d = names_deed v at r none (rows.locks_for v r) in (tt, plain_grants d d.reply.locks (replies d ∷ []) (tt, tt))
 
-plain_blocks : (v : Target) (locks : List Lock) → AllPlain (blocks v locks)
+pub plain_blocks : (v : Target) (locks : List Lock) → AllPlain (blocks v locks)
 plain_blocks v [] = tt
 plain_blocks v (l ∷ locks) =
     cond_both (is_called l.cookie v.called) (blocks v locks) (Block (called v l) ∷ block_of v l ∷ blocks v locks) (λ (es : List Entry). AllPlain es) (λ e. plain_blocks v locks) (λ e. (tt, (tt, plain_blocks v locks)))

@@ -23,7 +23,8 @@ use Rattle.lu_target_rows.specs.Leaving.{up, evicted, ready, row_join, row_tick,
 use Rattle.lu_target_rows.specs.Lives.{is_life}
 use Rattle.lu_target_rows.specs.Outcomes as rows
 use Rattle.lu_target_rows.specs.Recovery.{cut, empty_word, settles, row_close, row_keeps, row_replay, row_lock, row_says, row_word, row_wish, wishes_by, up_lines, row_boot}
-use Rattle.lu_target_rows.specs.Requests.{row_request, row_cancel}
+use Rattle.lu_target_rows.specs.Glimpses.{row_report, asked_for}
+use Rattle.lu_target_rows.specs.Requests.{row_request, row_cancel, row_where}
 use Rattle.lu_target_rows.specs.Rows as target
 use Rattle.lu_target_rows.specs.Rows.{by_boot, by_slot, heeds, of_boot, lock_again, row_heeds}
 use Rattle.lu_target_rows.specs.States.{Target, after, follow, turn as turned}
@@ -499,6 +500,12 @@ module _ (head : Head) (stamp : Stamp) (t : ℕ) where
     heard_lead (message.Cancel who boot cookie) asked took dues was under =
         let rest = target.while_serving v (row_cancel v at who cookie) in
         heeds_lead who boot (message.Cancel who boot cookie) rest was refl (λ e. dues) (λ e. dues) (λ has. along rest [] (serves_not (row_cancel v at who cookie)) (nothing dues))
+    heard_lead (message.Where who boot cookie) asked took dues was under =
+        let rest = target.while_serving v (row_where v who cookie) in
+        heeds_lead who boot (message.Where who boot cookie) rest was refl (λ e. dues) (λ e. dues) (λ has. along rest [] (serves_not (row_where v who cookie)) (nothing dues))
+    heard_lead (message.Size m) asked took dues was under =
+        let rest = target.while_serving v (row_report v at m (asked_for m v.glimpses)) in
+        heeds_lead m.who m.boot (message.Size m) rest was refl (λ e. dues) (λ e. dues) (λ has. along rest [] (serves_not (row_report v at m (asked_for m v.glimpses))) (nothing dues))
     heard_lead (message.Replay r) asked took dues was under =
         let rest = of_boot v r.boot (row_replay v at r) in
         let new = not (list_any (is_replay (replayed r)) v.replays) in

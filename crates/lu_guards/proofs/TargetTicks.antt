@@ -1,26 +1,31 @@
--- A tick of the metadata target: lives leave whose locks were called back too long ago, in an earlier turn, and what is called back still
--- is called back again.
+-- A tick of a target: lives leave whose locks were called back too long ago, in an earlier turn; what is called back still is called back
+-- again, and of whom a glimpse still waits is asked again.
 use Rattle.std.proofs.Common.{◌≡◌, ℕ, Bool, true, false, List, [], ◌∷◌, ◌++◌, ◌⊎◌, inl, inr, ⊎_elim, refl, sym, subst, ap, ◌∙◌, arith}
 use Rattle.std.specs.Prelude.{nat_eq, ◌&&◌, ◌||◌, not, if◌then◌else◌}
-use Rattle.std.proofs.lemmas.Bool.{cond_both, cond-true, and_parts, eq-eqb}
+use Rattle.std.specs.List.{list_any}
+use Rattle.std.proofs.lemmas.Bool.{cond_both, cond-true, and_parts, eqb-true, eq-eqb}
 use Rattle.lu_base.specs.declared.ids.At.{At}
+use Rattle.lu_base.specs.declared.ids.Cookie.{Cookie}
 use Rattle.lu_base.specs.declared.ids.Node.{Node}
 use Rattle.lu_base.specs.declared.ids.Node.TheVariants as node
 use Rattle.lu_base.specs.declared.ids.Stamp.{Stamp}
 use Rattle.lu_base.specs.declared.ids.Who.{Who}
+use Rattle.lu_base.specs.declared.ids.Xid.{Xid}
 use Rattle.lu_base.specs.declared.locks.Lock.{Lock}
 use Rattle.lu_words.specs.Carried.{Called, Glimpse}
 use Rattle.lu_words.specs.Words.{Entry, Block, Release, Evict, Close, Tick, Skip, Line, line, with_turn, turn_before, same_life}
 use Rattle.lu_words.specs.Concerns.{concerns, only}
-use Rattle.lu_target_rows.specs.Leaving.{condemned, is_due, expels, sends_again, ticked, row_tick}
+use Rattle.lu_target_rows.specs.Glimpses.{ask_of, glimpses_of}
+use Rattle.lu_target_rows.specs.Leaving.{condemned, is_due, expels, asks_again, sends_again, ticked, row_tick}
 use Rattle.lu_target_rows.specs.Lives.{is_life, with_life}
+use Rattle.lu_target_rows.specs.Locks.{same_request, same_glimpse}
 use Rattle.lu_target_rows.specs.Replies.{block_of, is_called}
 use Rattle.lu_target_rows.specs.Rows as target
 use Rattle.lu_target_rows.specs.States.{Target, after, follow, turn as turned}
 use Rattle.lu_covered.specs.Heads.{Head}
 use Rattle.lu_covered.specs.TargetStates.{Server, server_of, server_after, lives_of}
 use Rattle.lu_guards.proofs.Guards.{In, Later, Steps}
-use Rattle.lu_guards.proofs.StoryGuards.{CalledBefore, IsServing, EntryOf}
+use Rattle.lu_guards.proofs.StoryGuards.{CalledBefore, IsServing, AskHolderOk, EntryOf}
 use Rattle.lu_guards.proofs.Grown.{Grown, GrownOf}
 use Rattle.lu_guards.proofs.Only.{grown_of}
 use Rattle.lu_guards.proofs.Lists.{turn, in_append, in_filter, life_is, turn_trans}
@@ -28,6 +33,7 @@ use Rattle.lu_guards.proofs.LifeLists.{InOrder, order_put, order_distinct, life_
 use Rattle.lu_guards.proofs.TargetAlike.{Serving, AllPlain, serving_is, serving_line}
 use Rattle.lu_guards.proofs.TargetGood.{GoodAt, Reaches, reaches_more, serves_lines, turned_more}
 use Rattle.lu_guards.proofs.TargetPass.{HighAt, High}
+use Rattle.lu_guards.proofs.TargetWaits.{WritesToEnd}
 use Rattle.lu_guards.proofs.TargetWindows.{expels_lead}
 use Rattle.lu_guards.proofs.Turns.{Settled, owes_nothing}
 
@@ -105,73 +111,199 @@ condemned_called v (c ∷ cs) w i =
     by true e p ih = (c, inl refl, sym (life_is w c.who e))
     by false e p ih = let r = ih (stands_life w (condemned v cs) p) in (r.0, inr r.1, r.2)
 
--- ---- what is called back still
+-- ---- what is called back still, and who is asked still
 
--- where no glimpse waits
+-- what is sent leaves all of the target as it is
 abbrev Same : Target → Target → Type 0
 Same v w = (v.number ≡ w.number) × (v.boot ≡ w.boot) × (v.cookie ≡ w.cookie)
 
-again_number : (v : Target) (before : List Called) (locks : List Lock) (w : Target) → Same (turned w (sends_again v before [] locks)) w
-again_number v before [] w = (refl, refl, refl)
-again_number v before (l ∷ locks) w = by (is_called l.cookie before && is_called l.cookie v.called) (again_number v before locks w) (again_number v before locks (after w (block_of v l)))
+asks_same : (v : Target) (l : Lock) (gs : List Glimpse) (rest : List Entry) (w : Target) → ((x : Target) → Same (turned x rest) x) → Same (turned w (asks_again v l gs ++ rest)) w
+asks_same v l [] rest w same = same w
+asks_same v l (g ∷ gs) rest w same = by (list_any (same_glimpse g) v.glimpses) (asks_same v l gs rest w same) (asks_same v l gs rest (after w (ask_of v l g.request)) same)
   where
-    by : (b : Bool) → Same (turned w (sends_again v before [] locks)) w → Same (turned (after w (block_of v l)) (sends_again v before [] locks)) w
-        → Same (turned w ((if b then block_of v l ∷ [] else []) ++ sends_again v before [] locks)) w
+    by : (b : Bool) → Same (turned w (asks_again v l gs ++ rest)) w → Same (turned (after w (ask_of v l g.request)) (asks_again v l gs ++ rest)) w
+        → Same (turned w ((if b then ask_of v l g.request ∷ asks_again v l gs else asks_again v l gs) ++ rest)) w
     by true one two = two
     by false one two = one
 
-again_plain : (v : Target) (before : List Called) (locks : List Lock) → AllPlain (sends_again v before [] locks)
-again_plain v before [] = tt
-again_plain v before (l ∷ locks) = by (is_called l.cookie before && is_called l.cookie v.called) (again_plain v before locks)
+again_number : (v : Target) (before : List Called) (glimpses : List Glimpse) (locks : List Lock) (w : Target) → Same (turned w (sends_again v before glimpses locks)) w
+again_number v before glimpses [] w = (refl, refl, refl)
+again_number v before glimpses (l ∷ locks) w =
+    by (is_called l.cookie before && is_called l.cookie v.called) (asks_same v l gs rest w (again_number v before glimpses locks)) (asks_same v l gs rest (after w (block_of v l)) (again_number v before glimpses locks))
   where
-    by : (b : Bool) → AllPlain (sends_again v before [] locks) → AllPlain ((if b then block_of v l ∷ [] else []) ++ sends_again v before [] locks)
+    gs : List Glimpse
+    gs = glimpses_of l glimpses
+
+    rest : List Entry
+    rest = sends_again v before glimpses locks
+
+    by : (b : Bool) → Same (turned w (asks_again v l gs ++ rest)) w → Same (turned (after w (block_of v l)) (asks_again v l gs ++ rest)) w → Same (turned w ((if b then block_of v l ∷ [] else []) ++ (asks_again v l gs ++ rest))) w
+    by true one two = two
+    by false one two = one
+
+asks_plain : (v : Target) (l : Lock) (gs : List Glimpse) (rest : List Entry) → AllPlain rest → AllPlain (asks_again v l gs ++ rest)
+asks_plain v l [] rest p = p
+asks_plain v l (g ∷ gs) rest p = by (list_any (same_glimpse g) v.glimpses) (asks_plain v l gs rest p)
+  where
+    by : (b : Bool) → AllPlain (asks_again v l gs ++ rest) → AllPlain ((if b then ask_of v l g.request ∷ asks_again v l gs else asks_again v l gs) ++ rest)
+    by true q = (tt, q)
+    by false q = q
+
+again_plain : (v : Target) (before : List Called) (glimpses : List Glimpse) (locks : List Lock) → AllPlain (sends_again v before glimpses locks)
+again_plain v before glimpses [] = tt
+again_plain v before glimpses (l ∷ locks) = by (is_called l.cookie before && is_called l.cookie v.called) (asks_plain v l (glimpses_of l glimpses) rest (again_plain v before glimpses locks))
+  where
+    rest : List Entry
+    rest = sends_again v before glimpses locks
+
+    by : (b : Bool) → AllPlain (asks_again v l (glimpses_of l glimpses) ++ rest) → AllPlain ((if b then block_of v l ∷ [] else []) ++ (asks_again v l (glimpses_of l glimpses) ++ rest))
     by true p = (tt, p)
     by false p = p
 
-module _ (head : Head) (stamp : Stamp) where
-  abbrev at : At
-  at = turn stamp (node.Target 0)
+any_glimpse : (test : Glimpse → Bool) (gs : List Glimpse) → list_any test gs ≡ true → (x : Glimpse) × In x gs × (test x ≡ true)
+any_glimpse test [] e = absurd (cc)
+any_glimpse test (g ∷ gs) e = by (test g) refl e (any_glimpse test gs)
+  where
+    by : (b : Bool) → test g ≡ b → (b || list_any test gs) ≡ true → (list_any test gs ≡ true → (x : Glimpse) × In x gs × (test x ≡ true)) → (x : Glimpse) × In x (g ∷ gs) × (test x ≡ true)
+    by true t e ih = (g, inl refl, t)
+    by false t e ih = let r = ih e in (r.0, inr r.1, r.2)
 
-  sends_good : (v : Target) (before : List Called) (locks : List Lock) (past story : List Line) → IsServing head.osts story → Settled past → v.boot ≡ (server_of head.osts story).boot → v.called ≡ (server_of head.osts story).called
-      → ((l : Lock) → In l locks → In l (server_of head.osts story).granted) → GoodAt head stamp 0 past story (sends_again v before [] locks)
-  sends_good v before [] past story serves settled boot called granted = settled
-  sends_good v before (l ∷ locks) past story serves settled boot called granted =
-      by (is_called l.cookie before && is_called l.cookie v.called) refl
-      (λ p. sends_good v before locks (line at (block_of v l) ∷ past) (line at (block_of v l) ∷ story) serves tt boot called (λ k i. granted k (inr i)))
-      (λ p. sends_good v before locks past story serves settled boot called (λ k i. granted k (inr i)))
+xid_is : (a b : Xid) → nat_eq a.0 b.0 ≡ true → a ≡ b
+xid_is a b t = let e = eqb-true a.0 b.0 t in λ i. record { 0 = e i }
+
+cookie_is : (a b : Cookie) → nat_eq a.0 b.0 ≡ true → a ≡ b
+cookie_is a b t = let e = eqb-true a.0 b.0 t in λ i. record { 0 = e i }
+
+module _ (head : Head) (stamp : Stamp) (t : ℕ) where
+  abbrev at : At
+  at = turn stamp (node.Target t)
+
+  -- the target is what its story says of boot, locks and glimpses
+  abbrev Told : Target → List Line → Type 0
+  Told v story =
+      record {
+        serves : IsServing head.osts story;
+        boot : v.boot ≡ (server_of head.osts story).boot;
+        called : v.called ≡ (server_of head.osts story).called;
+        granted : v.granted ≡ (server_of head.osts story).granted;
+        glimpses : v.glimpses ≡ (server_of head.osts story).glimpses;
+        holders : (g : Glimpse) (l : Lock) → In g (server_of head.osts story).glimpses → In l (server_of head.osts story).granted → l.cookie.0 ≡ g.cookie.0 → WritesToEnd g.resource l;
+      }
+
+  abbrev Then : Target → List Entry → Type 0
+  Then v rest = (past story : List Line) → Told v story → Settled past → GoodAt head stamp t past story rest
+
+  asks_good : (v : Target) (l : Lock) (gs : List Glimpse) (rest : List Entry) → In l v.granted → ((g : Glimpse) → In g gs → nat_eq g.cookie.0 l.cookie.0 ≡ true) → Then v rest → Then v (asks_again v l gs ++ rest)
+  asks_good v l [] rest granted own go past story k settled = go past story k settled
+  asks_good v l (g ∷ gs) rest granted own go past story k settled =
+      by (list_any (same_glimpse g) v.glimpses) refl
+      (asks_good v l gs rest granted (λ x i. own x (inr i)) go (line at e ∷ past) (line at e ∷ story) k tt)
+      (asks_good v l gs rest granted (λ x i. own x (inr i)) go past story k settled)
     where
-      by : (b : Bool) → (is_called l.cookie before && is_called l.cookie v.called) ≡ b → (b ≡ true → GoodAt head stamp 0 (line at (block_of v l) ∷ past) (line at (block_of v l) ∷ story) (sends_again v before [] locks))
-          → (b ≡ false → GoodAt head stamp 0 past story (sends_again v before [] locks))
-          → GoodAt head stamp 0 past story ((if b then block_of v l ∷ [] else []) ++ sends_again v before [] locks)
-      by true e sent left = (
+      e : Entry
+      e = ask_of v l g.request
+
+      by : (b : Bool) → list_any (same_glimpse g) v.glimpses ≡ b → GoodAt head stamp t (line at e ∷ past) (line at e ∷ story) (asks_again v l gs ++ rest) → GoodAt head stamp t past story (asks_again v l gs ++ rest)
+          → GoodAt head stamp t past story ((if b then e ∷ asks_again v l gs else asks_again v l gs) ++ rest)
+      by false q sent left = left
+      by true q sent left = ((owes_nothing past at e settled, tt, ok), sent)
+        where
+          found : (x : Glimpse) × In x v.glimpses × (same_glimpse g x ≡ true)
+          found = any_glimpse (same_glimpse g) v.glimpses q
+
+          asked : Glimpse
+          asked = found.0
+
+          parts : (nat_eq g.cookie.0 asked.cookie.0 ≡ true) × (same_request g.request asked.request ≡ true)
+          parts = and_parts (nat_eq g.cookie.0 asked.cookie.0) (same_request g.request asked.request) found.2
+
+          request : (same_life g.request.who asked.request.who ≡ true) × (nat_eq g.request.xid.0 asked.request.xid.0 ≡ true)
+          request = and_parts (same_life g.request.who asked.request.who) (nat_eq g.request.xid.0 asked.request.xid.0) parts.1
+
+          same : l.cookie ≡ asked.cookie
+          same = sym (cookie_is g.cookie l.cookie (own g (inl refl))) ∙ cookie_is g.cookie asked.cookie parts.0
+
+          waits : In asked (server_of head.osts story).glimpses
+          waits = subst (λ (xs : List Glimpse). In asked xs) k.glimpses found.1
+
+          holds : In l (server_of head.osts story).granted
+          holds = subst (λ (ls : List Lock). In l ls) k.granted granted
+
+          writes : WritesToEnd asked.resource l
+          writes = k.holders asked l waits holds (ap (λ (c : Cookie). c.0) same)
+
+          ok : AskHolderOk head.osts story l.ask.who.client l.ask.who v.boot l.cookie g.request.who g.request.xid
+          ok =
+              record {
+                serves = k.serves;
+                glimpse = asked;
+                waits = waits;
+                lock = l;
+                granted = holds;
+                same = sym same;
+                on = writes.0;
+                mode = writes.1;
+                to_end = writes.2;
+                of_life = refl;
+                of_boot = k.boot;
+                of_cookie = refl;
+                for_life = life_is g.request.who asked.request.who request.0;
+                for_xid = xid_is g.request.xid asked.request.xid request.1;
+                to = refl;
+              }
+
+  sends_good : (v : Target) (before : List Called) (glimpses : List Glimpse) (locks : List Lock) → ((l : Lock) → In l locks → In l v.granted) → Then v (sends_again v before glimpses locks)
+  sends_good v before glimpses [] granted past story k settled = settled
+  sends_good v before glimpses (l ∷ locks) granted past story k settled =
+      let next = asks_good v l (glimpses_of l glimpses) (sends_again v before glimpses locks) (granted l (inl refl))
+      (λ g i. (in_filter (λ (x : Glimpse). nat_eq x.cookie.0 l.cookie.0) g glimpses i).1)
+      (sends_good v before glimpses locks (λ m i. granted m (inr i))) in
+      by (is_called l.cookie before && is_called l.cookie v.called) refl (next (line at (block_of v l) ∷ past) (line at (block_of v l) ∷ story) k tt) (next past story k settled)
+    where
+      e : Entry
+      e = block_of v l
+
+      rest : List Entry
+      rest = asks_again v l (glimpses_of l glimpses) ++ sends_again v before glimpses locks
+
+      by : (b : Bool) → (is_called l.cookie before && is_called l.cookie v.called) ≡ b → GoodAt head stamp t (line at e ∷ past) (line at e ∷ story) rest → GoodAt head stamp t past story rest
+          → GoodAt head stamp t past story ((if b then e ∷ [] else []) ++ rest)
+      by false q sent left = left
+      by true q sent left = (
         (
-          owes_nothing past at (block_of v l) settled,
-          refl,
+          owes_nothing past at e settled,
+          tt,
           record {
-            serves = serves;
+            serves = k.serves;
             lock = l;
-            granted = granted l (inl refl);
+            granted = subst (λ (ls : List Lock). In l ls) k.granted (granted l (inl refl));
             of_life = refl;
-            of_boot = boot;
+            of_boot = k.boot;
             of_cookie = refl;
             to = refl;
-            called = ap (is_called l.cookie) (sym called) ∙ (and_parts (is_called l.cookie before) (is_called l.cookie v.called) e).1;
+            called = ap (is_called l.cookie) (sym k.called) ∙ (and_parts (is_called l.cookie before) (is_called l.cookie v.called) q).1;
           },
         ),
-        sent refl,
+        sent,
       )
-      by false e sent left = left refl
 
-  pub tick_lead : (past : List Line) (v : Target) → Grown head past → Settled past → Later past at → Serving head 0 v (only 0 past) → High v (target.row v at target.Ticks)
-      → Reaches head stamp 0 past (only 0 past) v (target.row v at target.Ticks) (Serving head 0)
+  told_of : (v : Target) (story : List Line) → Serving head t v story → Told v story
+  told_of v story h =
+      record { serves = serving_is head t v story h; boot = h.alike.boot; called = h.alike.called; granted = h.alike.granted; glimpses = h.alike.glimpses; holders = h.story.waits_so.holders }
+
+  -- they leave, and what is left is sent again
+  pub tick_lead : (past : List Line) (v : Target) → Grown head past → Settled past → Later past at → Serving head t v (only t past) → High v (target.row v at target.Ticks)
+      → Reaches head stamp t past (only t past) v (target.row v at target.Ticks) (Serving head t)
   tick_lead past v g settled later h high =
-      subst (λ (es : List Entry). Reaches head stamp 0 past (only 0 past) v es (Serving head 0)) (sym is) (
-      reaches_more head stamp 0 (Serving head 0) (Serving head 0) (Tick ∷ []) (λ x. follow x (expels at (condemned x x.called) x) again) past (only 0 past) v refl
+      subst (λ (es : List Entry). Reaches head stamp t past (only t past) v es (Serving head t)) (sym is) (
+      reaches_more head stamp t (Serving head t) (Serving head t) (Tick ∷ []) (λ x. follow x (expels at (condemned x x.called) x) again) past (only t past) v refl
       (((owes_nothing past at Tick settled, later, tt), tt), ticks)
-      (λ e s k. reaches_more head stamp 0 (Serving head 0) (Serving head 0) leave again past1 story1 w e
-      (expels_lead head stamp 0 w past1 story1 e s k gone (λ x i. has x (condemned_called w w.called x i)) (order_distinct gone (condemned_order w w.called)) (λ x i. (inl (refl, tt), caused x (condemned_called w w.called x i))) leave_high)
-      (λ f r j. let sent = sends_good (turned w leave) w.called (turned w leave).granted (with_turn at leave past1) (with_turn at leave story1) (serving_is head 0 (turned w leave) (with_turn at leave story1) j) r j.alike.boot j.alike.called (λ l i. subst (λ (ls : List Lock). In l ls) j.alike.granted i) in
-      (sent, serves_lines head stamp 0 (sends_again (turned w leave) w.called [] (turned w leave).granted) (with_turn at leave past1) (with_turn at leave story1) (turned w leave) (again_plain (turned w leave) w.called (turned w leave).granted) sent j)))
+      (λ e s k. reaches_more head stamp t (Serving head t) (Serving head t) leave again past1 story1 w e
+      (expels_lead head stamp t w past1 story1 e s k gone (λ x i. has x (condemned_called w w.called x i)) (order_distinct gone (condemned_order w w.called)) (λ x i. (inl (refl, tt), caused x (condemned_called w w.called x i))) leave_high)
+      (λ f r j.
+      let x = turned w leave in
+      let sent = sends_good x w.called w.glimpses x.granted (λ l i. i) (with_turn at leave past1) (with_turn at leave story1) (told_of x (with_turn at leave story1) j) r in
+      (sent, serves_lines head stamp t (sends_again x w.called w.glimpses x.granted) (with_turn at leave past1) (with_turn at leave story1) x (again_plain x w.called w.glimpses x.granted) sent j)))
       )
     where
       w : Target
@@ -181,7 +313,7 @@ module _ (head : Head) (stamp : Stamp) where
       past1 = line at Tick ∷ past
 
       story1 : List Line
-      story1 = line at Tick ∷ only 0 past
+      story1 = line at Tick ∷ only t past
 
       gone : List Who
       gone = condemned w w.called
@@ -190,30 +322,25 @@ module _ (head : Head) (stamp : Stamp) where
       leave = expels at gone w
 
       again : Target → List Entry
-      again x = sends_again x w.called [] x.granted
+      again x = sends_again x w.called w.glimpses x.granted
 
       is : target.row v at target.Ticks ≡ Tick ∷ follow w leave again
-      is =
-          cond-true v.up (row_tick v at) (Skip ∷ []) h.alike.up ∙ cond-true (nat_eq v.closed v.boot) (Tick ∷ ticked at w) (Tick ∷ []) (eq-eqb v.closed v.boot h.alike.closed)
-          ∙ ap (λ (gs : List Glimpse). Tick ∷ follow w leave (λ (x : Target). sends_again x w.called gs x.granted)) h.alike.glimpses
+      is = cond-true v.up (row_tick v at) (Skip ∷ []) h.alike.up ∙ cond-true (nat_eq v.closed v.boot) (Tick ∷ ticked at w) (Tick ∷ []) (eq-eqb v.closed v.boot h.alike.closed)
 
-      ticks : Serving head 0 w story1
-      ticks = serving_line head 0 (only 0 past) stamp Tick v tt tt h
-
-      s : Server
-      s = server_of head.osts (only 0 past)
+      ticks : Serving head t w story1
+      ticks = serving_line head t (only t past) stamp Tick v tt tt h
 
       has : (x : Who) → (c : Called) × In c w.called × (c.who ≡ x) → is_life x (lives_of head.clients story1) ≡ true
       has x c = subst (λ (u : Who). is_life u (lives_of head.clients story1) ≡ true) c.2 (h.story.calls c.0 (subst (λ (cs : List Called). In c.0 cs) h.alike.called c.1))
 
       caused : (x : Who) → (c : Called) × In c w.called × (c.who ≡ x) → CalledBefore story1 at x
-      caused x c = blocked_before head 0 past at x g later (subst (λ (u : Who). Blocked (only 0 past) u) c.2 (called_blocked head (only 0 past) c.0 (grown_of head 0 past g) (subst (λ (cs : List Called). In c.0 cs) h.alike.called c.1)))
+      caused x c = blocked_before head t past at x g later (subst (λ (u : Who). Blocked (only t past) u) c.2 (called_blocked head (only t past) c.0 (grown_of head t past g) (subst (λ (cs : List Called). In c.0 cs) h.alike.called c.1)))
 
       leave_high : High w leave
       leave_high =
           let whole : High v (Tick ∷ follow w leave again) = subst (High v) is high in
           let rest : HighAt (turned (turned w leave) (again (turned w leave))) = subst HighAt (turned_more leave (again (turned w leave)) w) whole in
-          let all = again_number (turned w leave) w.called (turned w leave).granted (turned w leave) in
+          let all = again_number (turned w leave) w.called w.glimpses (turned w leave).granted (turned w leave) in
           let number = all.0 in
           let boot = all.1 in
           let cookie = all.2 in

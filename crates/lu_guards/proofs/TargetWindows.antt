@@ -1,23 +1,22 @@
 -- A commit with which lives leave or one comes, all that follows it, and what waited goes on: allowed lines, after which the target is
 -- again what its story says.
-use Rattle.std.proofs.Common.{◌≡◌, ℕ, ◌≤◌, Bool, true, false, List, [], ◌∷◌, None, inl, refl, sym, subst, ap, ◌∙◌}
+use Rattle.std.proofs.Common.{◌≡◌, ℕ, ◌<◌, ◌≤◌, Bool, true, false, List, [], ◌∷◌, None, inl, refl, sym, subst, ap, ◌∙◌, arith}
 use Rattle.std.specs.Prelude.{nat_eq}
 use Rattle.std.specs.List.{list_any}
-use Rattle.std.proofs.lemmas.Bool.{cond-true, cond-false, eqb-true}
+use Rattle.std.proofs.lemmas.Bool.{cond-true, cond-false, eqb-true, eqb-false}
 use Rattle.lu_base.specs.declared.ids.At.{At}
 use Rattle.lu_base.specs.declared.ids.Node.TheVariants as node
 use Rattle.lu_base.specs.declared.ids.Stamp.{Stamp}
 use Rattle.lu_base.specs.declared.ids.Who.{Who}
 use Rattle.lu_base.specs.declared.locks.Cause.{Cause}
 use Rattle.lu_base.specs.declared.locks.Cause.TheVariants.{Expired, Replaced}
-use Rattle.lu_base.specs.declared.locks.Lock.{Lock}
 use Rattle.lu_msg.specs.declared.messages.Message.TheVariants as message
 use Rattle.lu_words.specs.Words.{Entry, Boot, Joined, Line, line, with_turn}
 use Rattle.lu_words.specs.Concerns.{only}
 use Rattle.lu_target_rows.specs.Leaving.{commits, ready, evictions, all_go, expels, admits, row_admits, is_over, life_of as life_in}
 use Rattle.lu_target_rows.specs.Lives.{is_life, with_lives, without_lives}
 use Rattle.lu_target_rows.specs.Names.{names_go}
-use Rattle.lu_target_rows.specs.Queues.{all_queues_go, queues_go, resources_of}
+use Rattle.lu_target_rows.specs.Queues.{all_queues_go}
 use Rattle.lu_target_rows.specs.States.{Target, after, follow, turn as turned}
 use Rattle.lu_covered.specs.Heads.{Head}
 use Rattle.lu_covered.specs.TargetStates.{server_of, lives_of, evicted_of}
@@ -29,6 +28,7 @@ use Rattle.lu_guards.proofs.TargetAlike.{Serving, Window, serving_is, window_is,
 use Rattle.lu_guards.proofs.TargetGood.{Reaches, reaches_more, turned_more}
 use Rattle.lu_guards.proofs.TargetLeaving.{IsNoBoot, Carries, Leaving, leave_start, evictions_lead, commit_ok}
 use Rattle.lu_guards.proofs.TargetPass.{HighAt, High, names_good}
+use Rattle.lu_guards.proofs.TargetLocks.{queues_lead}
 use Rattle.lu_guards.proofs.TargetStory.{IsFirst, first_all}
 use Rattle.lu_guards.proofs.Turns.{Settled, owes_nothing}
 use Rattle.lu_guards.proofs.Ends.{took_more}
@@ -42,7 +42,7 @@ module _ (head : Head) (stamp : Stamp) where
   abbrev Goes : ℕ → (Target → List Entry) → Type 0
   Goes t next = (past story : List Line) (v : Target) → story ≡ only t past → Settled past → Serving head t v story → High v (next v) → Reaches head stamp t past story v (next v) (Serving head t)
 
-  -- what waited goes on: at the metadata target the requests; at another nothing waits
+  -- what waited goes on: at the metadata target the requests, at another one the locks
   pub all_goes : (t : ℕ) → Goes t (all_go (turn stamp (node.Target t)))
   all_goes t past story v is settled h high = by (nat_eq t 0) refl
     where
@@ -59,8 +59,11 @@ module _ (head : Head) (stamp : Stamp) where
           subst (λ (es : List Entry). Reaches head stamp t past story v es (Serving head t)) (sym same)
           (at_first t (eqb-true t 0 e) past story v is settled h (subst (λ (es : List Entry). High v es) same high))
       by false e =
-          let same : all_go (turn stamp (node.Target t)) v ≡ [] = cond-false (nat_eq v.setting.id 0) (names_go (turn stamp (node.Target t)) v) (all_queues_go v) (names ∙ e) ∙ ap (λ (ls : List Lock). queues_go (resources_of ls) v) h.alike.waiting in
-          subst (λ (es : List Entry). Reaches head stamp t past story v es (Serving head t)) (sym same) (settled, h)
+          let apart = eqb-false t 0 e in
+          let high_is : 0 < t = omega (arith, apart) in
+          let same : all_go (turn stamp (node.Target t)) v ≡ all_queues_go v = cond-false (nat_eq v.setting.id 0) (names_go (turn stamp (node.Target t)) v) (all_queues_go v) (names ∙ e) in
+          subst (λ (es : List Entry). Reaches head stamp t past story v es (Serving head t)) (sym same)
+          (queues_lead head stamp t high_is past story v is settled h)
 
   module _ (t : ℕ) where
     abbrev at : At

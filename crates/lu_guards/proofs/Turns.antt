@@ -1,6 +1,6 @@
 -- A turn whose lines are allowed, one after another, and that ends with nothing owed, nothing that a target has to keep, no life back
 -- unshown, and nothing of a close unshown: put on a grown past it makes a grown one.
-use Rattle.std.proofs.Common.{◌≡◌, ℕ, Bool, true, false, List, [], ◌∷◌, ◌++◌, Some, None, inl, inr, refl, sym, subst, ap}
+use Rattle.std.proofs.Common.{◌≡◌, ℕ, Bool, true, false, List, [], ◌∷◌, ◌++◌, Option, Some, None, inl, inr, refl, sym, subst, ap}
 use Rattle.std.specs.Prelude.{if◌then◌else◌}
 use Rattle.std.proofs.lemmas.Bool.{cond-true}
 use Rattle.lu_base.specs.declared.ids.At.{At}
@@ -10,14 +10,14 @@ use Rattle.lu_base.specs.declared.ids.Stamp.{Stamp}
 use Rattle.lu_base.specs.declared.ids.Who.{Who}
 use Rattle.lu_msg.specs.declared.calls.Call.{Call}
 use Rattle.lu_msg.specs.declared.calls.Call.TheVariants as call
-use Rattle.lu_words.specs.Carried.{Stage, Bad}
-use Rattle.lu_words.specs.Words.{Entry, Take, Begin, Pins, Unpins, Act, Txn, Grant, Close, Back, Stores, Brings, Says, Wishes, Line, line, with_turn, turn_before}
+use Rattle.lu_words.specs.Carried.{Stage, Bad, Flushing}
+use Rattle.lu_words.specs.Words.{Entry, Take, Begin, Stands, Queues, Pins, Unpins, Changes, WritesBack, Shows, Act, Txn, Wait, Answers, Grant, Close, Back, Stores, Brings, Says, Wishes, Line, line, with_turn, turn_before}
 use Rattle.lu_words.specs.Concerns.{is_about, concerns, only, about}
 use Rattle.lu_table.specs.Runs.{Turn, lines_of, Follows, IsRun}
 use Rattle.lu_table.specs.Heads as table
 use Rattle.lu_covered.specs.Heads.{Head}
 use Rattle.lu_covered.specs.TargetCloses.{but_first, closing_of}
-use Rattle.lu_guards.proofs.Guards.{Later, Steps, Ending, Closes, EntryOk, OwesBegun, Owes, IsMark, BackNow, due, IsTurnOf}
+use Rattle.lu_guards.proofs.Guards.{Later, Steps, Ending, Closes, EntryOk, OwesBegun, OwesStood, OwesQueued, Owes, IsMark, BackNow, due, IsTurnOf}
 use Rattle.lu_guards.proofs.StoryGuards.{EntryOf}
 use Rattle.lu_guards.proofs.Grown.{ShowsNext, LivesAt, Noted, Grown}
 use Rattle.lu_guards.proofs.Lists.{turn, turn_trans}
@@ -34,6 +34,8 @@ covered_head head = record { clients = head.clients; osts = head.osts; flight = 
 abbrev pub BeginQuiet : Stage → Call → Type 0
 BeginQuiet Bad c = ⊥
 BeginQuiet stage (call.Close h) = Unit {0}
+BeginQuiet stage (call.Write h offset bytes) = Unit {0}
+BeginQuiet stage (call.Cut h size) = Unit {0}
 BeginQuiet stage (call.Flush h) = Unit {0}
 BeginQuiet stage (call.Glimpse h) = Unit {0}
 BeginQuiet stage c = ⊥
@@ -42,10 +44,17 @@ BeginQuiet stage c = ⊥
 abbrev pub Quiet : (before : Type 0) → Entry → Type 0
 Quiet before (Act d) = ⊥
 Quiet before (Txn d) = ⊥
+Quiet before (Wait lock d) = ⊥
+Quiet before (Answers d) = ⊥
 Quiet before (Grant lock asked) = ⊥
 Quiet before (Begin slot running) = BeginQuiet running.stage running.call
 Quiet before (Pins name) = ⊥
 Quiet before (Unpins name) = before
+Quiet before (Stands slot running) = OwesStood running.stage before
+Quiet before (WritesBack resource change) = before
+Quiet before (Queues t q) = OwesQueued q.slot before
+Quiet before (Changes resource change) = ⊥
+Quiet before (Shows resource cookie last) = ⊥
 Quiet before _ = Unit {0}
 
 abbrev pub Settled : List Line → Type 0
@@ -59,17 +68,34 @@ owes_nothing (l ∷ past) at e s = by l.entry s (owes_nothing past at e)
     begun : (slot : ℕ) (stage : Stage) (c : Call) → BeginQuiet stage c → OwesBegun (l.at ≡ at) slot stage c e
     begun slot Bad c q = absurd q
     begun slot stage (call.Close h) q = tt
+    begun slot stage (call.Write h offset bytes) q = tt
+    begun slot stage (call.Cut h size) q = tt
     begun slot stage (call.Flush h) q = tt
     begun slot stage (call.Glimpse h) q = tt
     begun slot stage c q = absurd q
 
+    stood : (stage : Stage) → OwesStood stage (Settled past) → (Settled past → Owes past at e) → OwesStood stage (Owes past at e)
+    stood (Flushing stripe) q more = more q
+    stood stage q more = tt
+
+    queued : (slot : Option ℕ) → OwesQueued slot (Settled past) → (Settled past → Owes past at e) → OwesQueued slot (Owes past at e)
+    queued None q more = more q
+    queued (Some slot) q more = tt
+
     by : (x : Entry) → Quiet (Settled past) x → (Settled past → Owes past at e) → Owes (line l.at x ∷ past) at e
     by (Act d) q more = absurd q
     by (Txn d) q more = absurd q
+    by (Wait lock d) q more = absurd q
+    by (Answers d) q more = absurd q
     by (Grant lock asked) q more = absurd q
     by (Begin slot running) q more = begun slot running.stage running.call q
     by (Pins name) q more = absurd q
     by (Unpins name) q more = more q
+    by (Stands slot running) q more = stood running.stage q more
+    by (WritesBack resource change) q more = more q
+    by (Queues t r) q more = queued r.slot q more
+    by (Changes resource change) q more = absurd q
+    by (Shows resource cookie last) q more = absurd q
     by _ q more = tt
 
 -- each line of a turn pays what is owed, and at its end nothing is

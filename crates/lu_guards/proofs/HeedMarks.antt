@@ -1,0 +1,43 @@
+-- What a client still has to mark of the answer that it heard last: a write-back or a cut that was answered, and the bytes of a page. The
+-- marks come in the turn that heard it, one after another.
+use Rattle.std.proofs.Common.{◌≡◌, ℕ, List, [], ◌∷◌}
+use Rattle.std.specs.Prelude.{if◌then◌else◌}
+use Rattle.lu_msg.specs.declared.answers.Answer.{Answer}
+use Rattle.lu_msg.specs.declared.answers.Answer.TheVariants as answer
+use Rattle.lu_msg.specs.declared.operations.Op.{Op}
+use Rattle.lu_msg.specs.declared.operations.Op.TheVariants as op
+use Rattle.lu_held.specs.declared.locks.HeldLock.{HeldLock}
+use Rattle.lu_held.specs.Locks.{named}
+use Rattle.lu_words.specs.declared.changes.Flush.TheVariants.{Cut, Put}
+use Rattle.lu_words.specs.Words.{Entry, Heard, Acks, Fills, Zeroes, Grown, Shows, Line, is_client}
+use Rattle.lu_client_rows.specs.Caches.{held_at}
+use Rattle.lu_client_rows.specs.Messages.{held_as, page_heard}
+
+-- by the operation that was answered, and the locks that are held
+abbrev pub heeds_marks : ℕ → Op → Answer → List HeldLock → List Entry
+heeds_marks t (op.Get resource cookie page) (answer.Content bs) held = page_heard resource cookie page bs (held_as (named (record { 0 = t }) cookie) held)
+heeds_marks t (op.Put resource cookie at bs) answer.Done held = Acks resource ∷ Fills resource at bs ∷ Grown resource (Put at bs) ∷ []
+heeds_marks t (op.Cut resource cookie n) answer.Done held = Acks resource ∷ Zeroes resource n ∷ Grown resource (Cut n) ∷ []
+heeds_marks t o a held = []
+
+abbrev pub marks_left : List Entry → List Entry
+marks_left [] = []
+marks_left (e ∷ es) = es
+
+-- the first of them comes next: reads Heard, and the marks
+abbrev pub marks_of : ℕ → List Line → List Entry
+marks_of c [] = []
+marks_of c (l ∷ past) =
+    elim l.entry [
+      | Heard t f r ↦ if is_client c l.at.node then heeds_marks t f.op r.answer (held_at c past) else marks_of c past
+      | Acks resource ↦ if is_client c l.at.node then marks_left (marks_of c past) else marks_of c past
+      | Fills resource offset bytes ↦ if is_client c l.at.node then marks_left (marks_of c past) else marks_of c past
+      | Zeroes resource size ↦ if is_client c l.at.node then marks_left (marks_of c past) else marks_of c past
+      | Grown resource change ↦ if is_client c l.at.node then marks_left (marks_of c past) else marks_of c past
+      | Shows resource cookie last ↦ if is_client c l.at.node then marks_left (marks_of c past) else marks_of c past
+      | _ ↦ marks_of c past
+    ]
+
+-- it is the next of them
+abbrev pub MarkNext : List Line → ℕ → Entry → Type 0
+MarkNext past c e = (more : List Entry) × (marks_of c past ≡ e ∷ more)
