@@ -8,10 +8,11 @@ use Rattle.lu_covered.specs.Heads.{Head}
 use Rattle.lu_guards.proofs.StoryGuards.{EntryOf}
 use Rattle.lu_guards.proofs.Grown.{IsOfFirst, IsPlaced, Allowed, Grown, GrownOf}
 use Rattle.lu_guards.proofs.Only.{grown_of}
-use Rattle.lu_facts.proofs.Groups.{turn, Done, Locks, HoldsAt, Reaches, Holds}
+use Rattle.lu_facts.proofs.Groups.{turn, Done, Locks, HoldsAt, Reaches, Informs, Holds}
 use Rattle.lu_facts.proofs.Phase.{phase_start, keeps_phase}
 use Rattle.lu_facts.proofs.Boots.{boots_start, keeps_boots}
 use Rattle.lu_facts.proofs.Numbers.{numbers_start, keeps_numbers, room_start, keeps_room}
+use Rattle.lu_facts.proofs.Ranges.{ranges_start, keeps_ranges}
 use Rattle.lu_facts.proofs.Done.{done_start, keeps_done}
 use Rattle.lu_facts.proofs.DiskSlots.{disk_start, keeps_disk, comes_start, keeps_comes}
 use Rattle.lu_facts.proofs.Locks.{locks_start, keeps_locks}
@@ -21,7 +22,7 @@ use Rattle.lu_facts.proofs.Recovers.{recovers_start, keeps_recovers}
 use Rattle.lu_facts.proofs.HistoryLines.{history_start}
 use Rattle.lu_facts.proofs.History.{keeps_history}
 use Rattle.lu_facts.proofs.Asks.{keeps_asks}
-use Rattle.lu_facts.proofs.Times.{keeps_reaches, keeps_since}
+use Rattle.lu_facts.proofs.Times.{keeps_reaches, keeps_informs, keeps_since}
 use Rattle.lu_facts.proofs.Replies.{keeps_replies}
 
 -- ---- at one target
@@ -33,6 +34,7 @@ step_at head past stamp node e ok first placed h =
     record {
       phase = keeps_phase head past stamp node e ok h;
       numbers = keeps_numbers head past stamp node e ok h;
+      ranges = keeps_ranges head past stamp node e ok h.ranges;
       room = keeps_room head past stamp node e ok h;
       done = done;
       locks = locks;
@@ -50,6 +52,7 @@ first_at head =
     record {
       phase = phase_start head.osts;
       numbers = numbers_start;
+      ranges = ranges_start;
       room = room_start head;
       done = done_start head.osts head.clients;
       locks = locks_start head.osts head.clients;
@@ -71,12 +74,14 @@ holds_at head (l ∷ past) g = step_at head past l.at.stamp l.at.node l.entry g.
 step : (head : Head) (past : List Line) (stamp : Stamp) (node : Node) (e : Entry) → Grown head past → Allowed head past (turn stamp node) e → ((t : ℕ) → HoldsAt head (only t (line (turn stamp node) e ∷ past))) → Holds head past
     → Holds head (line (turn stamp node) e ∷ past)
 step head past stamp node e g a at h =
-    let reaches : Reaches (line (turn stamp node) e ∷ past) = keeps_reaches head past stamp node e a.steps a.ok a.of a.owes h.reaches in
+    let reaches : Reaches (line (turn stamp node) e ∷ past) = keeps_reaches head past stamp node e a.steps a.ok a.of a.owes h.at h.reaches in
+    let informs : Informs (line (turn stamp node) e ∷ past) = keeps_informs head past stamp node e a.closes a.ok a.of a.owes h.at h.asks reaches h.informs in
     record {
       at = at;
       asks = keeps_asks head past stamp node e g a.closes a.ok a.of h.asks;
       reaches = reaches;
-      since = keeps_since head past stamp node e a.closes a.ok a.of a.owes h.at h.asks reaches h.since;
+      since = keeps_since head past stamp node e a.closes a.ok a.of a.owes h.at h.asks reaches informs h.since;
+      informs = informs;
       replies = keeps_replies head past g h.at h.asks h.since stamp node e a.ok a.of h.replies;
     }
 
@@ -87,13 +92,14 @@ first head =
       asks = record {
         fly_calls = λ c t f n i. absurd i;
         queue_calls = λ c t q n i. absurd i;
-        fly_one = λ c t u f g n i. absurd i;
-        queue_one = λ c t u q g n i. absurd i;
+        fly_one = λ c t u slot f g n i. absurd i;
+        queue_one = λ c t u slot q g n i. absurd i;
         queue_apart = λ c t n. tt;
-        apart = λ c t u q f n i. absurd i;
+        apart = λ c t u slot q f n i. absurd i;
       };
-      reaches = record { acted = λ d a. absurd a; begun = λ c slot r e. absurd (cc) };
+      reaches = record { acted = λ d a. absurd a; said = λ from to m w. absurd w; begun = λ c slot r e. absurd (cc) };
       since = λ c t slot f r d i. absurd i;
+      informs = λ c t slot f r from m i. absurd i;
       replies = λ c slot target r reply e. absurd (cc);
     }
 

@@ -5,21 +5,23 @@ use Rattle.std.proofs.lemmas.Bool.{and_parts, cond_both, eqb-true}
 use Rattle.lu_base.specs.declared.ids.Node.{Node}
 use Rattle.lu_base.specs.declared.ids.Node.TheVariants.{Client, Target}
 use Rattle.lu_base.specs.declared.ids.Who.{Who}
-use Rattle.lu_base.specs.declared.locks.Mode.TheVariants.{PR}
 use Rattle.lu_msg.specs.declared.calls.Call.{Call}
 use Rattle.lu_msg.specs.declared.calls.Call.TheVariants as call
 use Rattle.lu_msg.specs.declared.operations.Op.{Op}
 use Rattle.lu_msg.specs.declared.operations.Op.TheVariants as op
 use Rattle.lu_client_rows.specs.Known.{Notes}
+use Rattle.lu_words.specs.declared.changes.Flush.{Flush}
+use Rattle.lu_words.specs.declared.changes.Flush.TheVariants.{Cut, Put}
 use Rattle.lu_words.specs.Carried.{Deed, HandleFile, Queued, Flight, Running}
 use Rattle.lu_words.specs.Words.{Entry, Tick, Begin, Life, Queues, Flies, Line, line}
 use Rattle.lu_words.specs.Concerns.{concerns, only}
+use Rattle.lu_client_rows.specs.WriteBack.{operation}
 use Rattle.lu_covered.specs.Calls.{call_at, operation_of}
 use Rattle.lu_covered.specs.Imports.{rest, queue_at}
 use Rattle.lu_covered.specs.Known.{notes_at, known_answer}
 use Rattle.lu_covered.specs.ClientStates.{is_own}
 use Rattle.lu_covered.specs.Heads.{Head}
-use Rattle.lu_guards.proofs.Guards.{In, NamesAskOk, SizeAskOk, LockAskOk, QueuesOk, EntryOk}
+use Rattle.lu_guards.proofs.Guards.{In, NamesAskOk, SizeAskOk, LockAskOk, GetAskOk, QueuesOk, EntryOk}
 use Rattle.lu_guards.proofs.Grown.{Allowed, Grown}
 use Rattle.lu_guards.proofs.Lists.{self, in_append}
 use Rattle.lu_guards.proofs.Parts.{queue_now}
@@ -29,7 +31,7 @@ use Rattle.lu_facts.proofs.Lines.{flew_whole}
 use Rattle.lu_facts.proofs.All.{holds}
 use Rattle.lu_facts.proofs.Calls.{JustBegan, Began as CallBegan, Touched, Stood, call_cases}
 use Rattle.lu_facts.proofs.OnNames.{IsOnNames, names_on}
-use Rattle.lu_facts.proofs.Sides.{ActedKind, acted_at, acted_only, flew_kind, acted_kind}
+use Rattle.lu_facts.proofs.Sides.{ActedKind, acted_some, flew_kind, acted_kind}
 
 -- a call began: reads Begin
 abbrev pub Began : List Line → Call → Type 0
@@ -80,18 +82,22 @@ queued_asked : (head : Head) (past : List Line) → Grown head past → (c : ℕ
 queued_asked head [] g c q i = absurd i
 queued_asked head (l ∷ past) g c q i = asked_more l past q.op (by l.at.node l.entry g.0.ok (queued_asked head past g.1 c q) i)
   where
-    asks : (d v : ℕ) (o : Op) (r : Running) (s : ℕ) → call_at d s past ≡ Some r → 0 ≡ v → NamesAskOk past d v r o ⊎ SizeAskOk v r o ⊎ LockAskOk v r o → AskedBy past o
+    asks : (d v : ℕ) (o : Op) (r : Running) (s : ℕ) → call_at d s past ≡ Some r → 0 ≡ v → NamesAskOk past d v r o ⊎ SizeAskOk v r o ⊎ LockAskOk v r o ⊎ GetAskOk past d v r o → AskedBy past o
     asks d v o r s is first (inl a) = (r.call, began_call head past g.1 d s r is, r.file, a.becomes)
     asks d v o r s is first (inr (inl a)) = absurd (let high = a.object in omega (arith, first, high))
-    asks d v o r s is first (inr (inr a)) = absurd (let high = a.object in omega (arith, first, high))
+    asks d v o r s is first (inr (inr (inl a))) = absurd (let high = a.object in omega (arith, first, high))
+    asks d v o r s is first (inr (inr (inr a))) = absurd (let high = a.object in omega (arith, first, high))
+
+    queues : (d v : ℕ) (new : Queued) → QueuesOk past d v new → 0 ≡ v → AskedBy past new.op
+    queues d v new (inl ok) first = asks d v new.op ok.running ok.slot ok.call first ok.asks
+    queues d v new (inr ok) first = absurd (let high = ok.object in omega (arith, first, high))
 
     by : (node : Node) (e : Entry) → EntryOk past (turn l.at.stamp node) node e → (In q (queue_at c 0 past) → AskedBy past q.op) → In q (queue_at c 0 (line (turn l.at.stamp node) e ∷ past)) → AskedBy past q.op
     by (Client d) (Queues v new) ok h =
         cond_both (nat_eq c d && nat_eq 0 v) (queue_at c 0 past ++ new ∷ []) (queue_at c 0 past) (λ (qs : List Queued). In q qs → AskedBy past q.op)
         (λ o i. ⊎_elim
         (λ (j : In q (queue_at c 0 past)). h j)
-        (λ (j : In q (new ∷ [])). ⊎_elim (λ (w : new ≡ q). subst (λ (x : Queued). AskedBy past x.op) w (asks d v new.op ok.running ok.slot ok.call (eqb-true 0 v (and_parts (nat_eq c d) (nat_eq 0 v) o).1)
-        ok.asks)) (λ (w : ⊥). absurd w) j)
+        (λ (j : In q (new ∷ [])). ⊎_elim (λ (w : new ≡ q). subst (λ (x : Queued). AskedBy past x.op) w (queues d v new ok (eqb-true 0 v (and_parts (nat_eq c d) (nat_eq 0 v) o).1))) (λ (w : ⊥). absurd w) j)
         (in_append q (queue_at c 0 past) (new ∷ []) i))
         (λ o. h)
     by (Client d) (Flies v f) ok h =
@@ -155,12 +161,18 @@ root_known n (Some f) (call.Close h) e none = absurd (cc)
 root_known n file k e none = absurd (cc)
 
 queues_other : (past : List Line) (c t : ℕ) (q : Queued) → QueuesOk past c t q → q.op ≡ op.Lookup [] → ⊥
-queues_other past c t q ok is = by ok.asks
+queues_other past c t q (inr ok) is = back ok.change (sym is ∙ ok.of_op)
   where
-    by : NamesAskOk past c t ok.running q.op ⊎ SizeAskOk t ok.running q.op ⊎ LockAskOk t ok.running q.op → ⊥
+    back : (change : Flush) → op.Lookup [] ≡ operation ok.holding.lock.resource ok.holding.lock.cookie change → ⊥
+    back (Put first bytes) both = absurd (cc)
+    back (Cut size) both = absurd (cc)
+queues_other past c t q (inl ok) is = by ok.asks
+  where
+    by : NamesAskOk past c t ok.running q.op ⊎ SizeAskOk t ok.running q.op ⊎ LockAskOk t ok.running q.op ⊎ GetAskOk past c t ok.running q.op → ⊥
     by (inl a) = root_known (notes_at c past) ok.running.file ok.running.call (a.becomes ∙ ap (λ (o : Op). Some o) is) a.unknown
     by (inr (inl a)) = let both : op.Lookup [] ≡ op.Size a.wanted.resource = sym is ∙ a.of_op in absurd (cc)
-    by (inr (inr a)) = let both : op.Lookup [] ≡ op.Enqueue a.wanted.resource PR a.extent = sym is ∙ a.of_op in absurd (cc)
+    by (inr (inr (inl a))) = let both : op.Lookup [] ≡ op.Enqueue a.wanted.resource a.wanted.mode a.extent = sym is ∙ a.of_op in absurd (cc)
+    by (inr (inr (inr a))) = let both : op.Lookup [] ≡ op.Get a.page.under.want.resource a.page.under.lock.cookie a.page.page = sym is ∙ a.of_op in absurd (cc)
 
 queued_other : (head : Head) (past : List Line) → Grown head past → (c t : ℕ) (q : Queued) → In q (queue_at c t past) → q.op ≡ op.Lookup [] → ⊥
 queued_other head [] g c t q i = absurd i
@@ -201,6 +213,6 @@ flew_other head (l ∷ past) who f g a = by l.at.node l.entry g.0 a (flew_other 
 
 pub acted_other : (head : Head) (past : List Line) (d : Deed) → Grown head past → Acted past d → d.op ≡ op.Lookup [] → ⊥
 acted_other head past d g a is =
-    let at = acted_at head past d g a in
-    let flew = ((holds head past g).at at.0).done.flew d (acted_only head past d at.0 g a at.1) in
+    let at = acted_some head past d g a in
+    let flew = ((holds head past g).at at.0).done.flew d at.1 in
     flew_other head past d.reply.who flew.0 g (flew_whole at.0 past d.reply.who flew.0 flew.1) (flew.3 ∙ is)

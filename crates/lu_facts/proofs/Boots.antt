@@ -3,6 +3,7 @@ use Rattle.std.proofs.Common.{◌≡◌, ℕ, ◌≤◌, List, [], ◌∷◌, �
 use Rattle.lu_base.specs.declared.ids.Node.{Node}
 use Rattle.lu_base.specs.declared.ids.Node.TheVariants.{Client, Target}
 use Rattle.lu_base.specs.declared.ids.Stamp.{Stamp}
+use Rattle.lu_msg.specs.declared.messages.GrantNotice.{GrantNotice}
 use Rattle.lu_msg.specs.declared.messages.Message.{Message}
 use Rattle.lu_msg.specs.declared.messages.Message.TheVariants as message
 use Rattle.lu_msg.specs.declared.messages.Reply.{Reply as ReplyTo}
@@ -27,7 +28,10 @@ in_more most more le (message.Evicted who boot) h = let x = h.1 in (h.0, omega a
 in_more most more le (message.Replay r) h = let x = h.1 in (h.0, omega arith)
 in_more most more le (message.Lock r) h = let x = h.1 in (h.0, omega arith)
 in_more most more le (message.Word who boot replays locks seen) h = let x = h.1 in (h.0, omega arith)
-in_more most more le m h = tt
+in_more most more le (message.Where who boot cookie) h = let x = h.1 in (h.0, omega arith)
+in_more most more le (message.Size s) h = let x = h.1 in (h.0, omega arith)
+in_more most more le (message.Grant g) h = let x = h.1 in (h.0, omega arith)
+in_more most more le (message.Ask who boot cookie for_who xid) h = let x = h.1 in (h.0, omega arith)
 
 -- a boot that a client knows, and the target's own
 abbrev Had : ℕ → List Line → ℕ → Type 0
@@ -51,6 +55,10 @@ sent_in head past (Target t) (Client c) (message.Reply k) ok p = own_had head.os
 sent_in head past (Target t) (Client c) (message.Block who boot cookie) ok p = own_had head.osts past boot ok.of_boot p
 sent_in head past (Target t) (Client c) (message.Ready who boot committed) ok p = own_had head.osts past boot ok.of_boot p
 sent_in head past (Target t) (Client c) (message.Evicted who boot) ok p = own_had head.osts past boot ok.of_boot p
+sent_in head past (Client c) (Target t) (message.Where who boot cookie) ok p = known_had head.osts past c boot ok.of_boot p
+sent_in head past (Client c) (Target t) (message.Size s) ok p = known_had head.osts past c s.boot ok.of_boot p
+sent_in head past (Target t) (Client c) (message.Grant g) ok p = own_had head.osts past g.boot (ap (λ (v : GrantNotice). v.boot) ok.is) p
+sent_in head past (Target t) (Client c) (message.Ask who boot cookie for_who xid) ok p = own_had head.osts past boot ok.of_boot p
 sent_in head past node to m ok p = absurd ok
 
 -- one more message

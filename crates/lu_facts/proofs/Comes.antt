@@ -24,18 +24,18 @@ use Rattle.lu_machine.proofs.Paths.{Steps, walk_steps}
 use Rattle.lu_machine.proofs.Transactions.{readings_change_nothing}
 use Rattle.lu_target_rows.specs.Names.{locks_from}
 use Rattle.lu_words.specs.Carried.{Deed}
-use Rattle.lu_words.specs.Words.{Entry, Act, Txn as Made, Grant, Line, line}
+use Rattle.lu_words.specs.Words.{Entry, Act, Txn as Made, Grant, Wait, Answers, Line, line}
 use Rattle.lu_client_rows.specs.Facts as facts
 use Rattle.lu_client_rows.specs.Facts.{is_one_for_each}
 use Rattle.lu_covered.specs.Makes.{Path}
 use Rattle.lu_covered.specs.Deeds.{asked}
 use Rattle.lu_covered.specs.Heads.{Head}
 use Rattle.lu_covered.specs.TargetStates.{none, server_of}
-use Rattle.lu_guards.proofs.StoryGuards.{ActOk, ActsOk, TxnOk, GrantsOk, EntryOf}
-use Rattle.lu_guards.proofs.Acts.{sized_op, range_op}
+use Rattle.lu_guards.proofs.StoryGuards.{ActOk, ActsOk, TxnOk, TxnsOk, GrantsOk, EntryOf}
 use Rattle.lu_guards.proofs.Grown.{GrownOf}
 use Rattle.lu_facts.proofs.Groups.{turn, Acted}
 use Rattle.lu_facts.proofs.DoneGrows.{did_acted}
+use Rattle.lu_facts.proofs.ObjectAnswers.{OfObject, object_reads, sized_object, range_object, wait_object, answers_object, write_object}
 use Rattle.lu_facts.proofs.TaughtKnown.{Led, Comes}
 
 abbrev pub NoRefusal : Answer → Type 0
@@ -136,19 +136,26 @@ module _ (osts : ℕ) (past : List Line) (at : At) where
       let r = ok.request in
       subst ComesOf (sym ok.is) (λ reads fine. let moves = ok.moves in let still = readings_change_nothing osts v.tree (asked r none) reads in absurd (cc))
 
+-- what is done on an object reads no names
+object_comes : (d : Deed) → OfObject d → ComesOf d
+object_comes d k = λ reads fine. absurd (object_reads d.op k.of_op reads)
+
 -- in the story of a target
 pub acted_comes : (head : Head) (past : List Line) (d : Deed) → GrownOf head past → Acted past d → ComesOf d
 acted_comes head [] d g a = absurd a
 acted_comes head (l ∷ past) d g a = by l.at.node l.entry g.0 a (acted_comes head past d g.3)
   where
-    -- what is done on an object reads no names
     acts_come : (t : ℕ) (x : Deed) → ActsOk head.osts past (turn l.at.stamp (Target t)) t x → ComesOf x
     acts_come t x (inl a) = act_comes head.osts past (turn l.at.stamp (Target t)) x a.1
-    acts_come t x (inr a) = λ reads fine. absurd (subst IsReading (sized_op head.osts past (turn l.at.stamp (Target t)) x a.1) reads)
+    acts_come t x (inr a) = object_comes x (sized_object head.osts past (turn l.at.stamp (Target t)) x a.1)
+
+    txns_come : (t : ℕ) (x : Deed) → TxnsOk head.osts past (turn l.at.stamp (Target t)) t x → ComesOf x
+    txns_come t x (inl a) = txn_comes head.osts past (turn l.at.stamp (Target t)) x a.1
+    txns_come t x (inr a) = object_comes x (write_object head.osts past (turn l.at.stamp (Target t)) x a.1)
 
     grants_come : (t : ℕ) (lock : Lock) (x : Deed) → GrantsOk head.osts past (turn l.at.stamp (Target t)) t lock x → (Acted past x → ComesOf x) → ComesOf x
     grants_come t lock x (inl a) h = h (did_acted past x a.1.did)
-    grants_come t lock x (inr a) h = λ reads fine. absurd (subst IsReading (range_op head.osts past (turn l.at.stamp (Target t)) lock x a.1) reads)
+    grants_come t lock x (inr a) h = object_comes x (range_object head.osts past (turn l.at.stamp (Target t)) lock x a.1)
 
     some_is : (x : Deed) → Some x ≡ Some d → x ≡ d
     some_is x e = cc
@@ -159,9 +166,16 @@ acted_comes head (l ∷ past) d g a = by l.at.node l.entry g.0 a (acted_comes he
     by (Client c) (Grant lock given) ok a h = absurd ok
     by (Target t) (Act x) ok (inl e) h = subst ComesOf e (acts_come t x ok)
     by (Target t) (Act x) ok (inr a) h = h a
-    by (Target t) (Made x) ok (inl e) h = subst ComesOf e (txn_comes head.osts past (turn l.at.stamp (Target t)) x ok)
+    by (Target t) (Made x) ok (inl e) h = subst ComesOf e (txns_come t x ok)
     by (Target t) (Made x) ok (inr a) h = h a
-    by (Target t) (Grant lock None) ok a h = absurd ok
+    by (Target t) (Grant lock None) ok (inl e) h = absurd (cc)
+    by (Target t) (Grant lock None) ok (inr a) h = h a
+    by (Client c) (Wait lock x) ok a h = absurd ok
+    by (Client c) (Answers x) ok a h = absurd ok
+    by (Target t) (Wait lock x) ok (inl e) h = subst ComesOf e (object_comes x (wait_object head.osts past (turn l.at.stamp (Target t)) lock x ok.1))
+    by (Target t) (Wait lock x) ok (inr a) h = h a
+    by (Target t) (Answers x) ok (inl e) h = subst ComesOf e (object_comes x (answers_object head.osts past (turn l.at.stamp (Target t)) t x ok.1))
+    by (Target t) (Answers x) ok (inr a) h = h a
     by (Target t) (Grant lock (Some x)) ok (inl e) h = subst (λ (y : Deed). (Acted past y → ComesOf y) → ComesOf y) (some_is x e) (grants_come t lock x ok) h
     by (Target t) (Grant lock (Some x)) ok (inr a) h = h a
     by node e ok a h = h a

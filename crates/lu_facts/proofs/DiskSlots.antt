@@ -1,6 +1,6 @@
 -- The slots on the disk: each commit puts there the replies to what it has, of each life and tag the last one; that of a close puts there
 -- what the target goes on from.
-use Rattle.std.proofs.Common.{◌≡◌, ℕ, ◌+◌, ◌*◌, ◌<◌, ◌≤◌, Bool, true, false, List, [], ◌∷◌, ◌++◌, Some, None, ◌⊎◌, inl, inr, ⊎_elim, refl, sym, subst, ap, ◌∙◌, arith}
+use Rattle.std.proofs.Common.{◌≡◌, ℕ, ◌+◌, ◌*◌, ◌<◌, ◌≤◌, Bool, true, false, List, [], ◌∷◌, ◌++◌, Option, Some, None, ◌⊎◌, inl, inr, ⊎_elim, refl, sym, subst, ap, ◌∙◌, arith}
 use Rattle.std.specs.Prelude.{nat_lt, not}
 use Rattle.std.specs.List.{filter}
 use Rattle.std.proofs.lemmas.Bool.{or_parts, not-true}
@@ -17,7 +17,7 @@ use Rattle.lu_msg.specs.declared.commits.Transaction.{Transaction}
 use Rattle.lu_msg.specs.declared.messages.Message.{Message}
 use Rattle.lu_msg.specs.declared.messages.Reply.{Reply as ReplyTo}
 use Rattle.lu_words.specs.Carried.{Deed, Disk, Gone, Outcome, Slot}
-use Rattle.lu_words.specs.Words.{Entry, Send, Heard, Act, Txn as Made, Grant, Commit, Boot, Close, Line, line, same_life}
+use Rattle.lu_words.specs.Words.{Entry, Send, Heard, Act, Txn as Made, Grant, Wait, Answers, Commit, Boot, Close, Line, line, same_life}
 use Rattle.lu_target_rows.specs.Lives.{is_life, no_slot, slot_in, slots_kept, lives_of as lives_in}
 use Rattle.lu_target_rows.specs.Recovery.{kept_lines, restore_lines}
 use Rattle.lu_target_rows.specs.Stored.{batch_of, stored}
@@ -34,6 +34,7 @@ use Rattle.lu_guards.proofs.Has.{in_but}
 use Rattle.lu_facts.proofs.Groups.{turn, Acted, HasSlot, Evicted, IsMade, Stands, Rebuilt, StoredFor, OnDisk, DiskSlots, Coming, Comes, HoldsAt}
 use Rattle.lu_facts.proofs.DoneGrows.{rebuilt_more}
 use Rattle.lu_facts.proofs.GrantLines.{grant_made}
+use Rattle.lu_facts.proofs.ObjectDeeds.{wait_told, answers_told, told_number, makes}
 use Rattle.lu_facts.proofs.DoneSends.{rebuilt_sent}
 use Rattle.lu_facts.proofs.DoneCloses.{old_boot, stands_before, stored_still}
 use Rattle.lu_facts.proofs.SlotLists.{NoneFalls, OfSlot, rises_falls, falls_filter, slot_gone, last_in, above_in, last_upto, last_most}
@@ -213,6 +214,12 @@ disk_send : (head : Head) (past : List Line) (at : At) (to : Node) (m : Message)
     → (who : Who) (tag : ℕ) (k : ReplyTo) → (committed : ℕ) → ((d : Deed) → Stands head.osts past d → Stands head.osts (line at (Send to m) ∷ past) d) → StoredFor head.osts past committed who tag k → StoredFor head.osts (line at (Send to m) ∷ past) committed who tag k
 disk_send head past at to m ok closed h who tag k committed stands s = stored_more head.osts past (line at (Send to m) ∷ past) committed who tag k (λ d a. a) stands (rebuilt_sent head past at to m ok h.numbers who k closed) s
 
+-- what makes no transaction is none that stands on the disk
+idle_high : (head : Head) (past : List Line) (d : Deed) → d.reply.txn.0 ≡ 0 → (g : Deed) → (d ≡ g) ⊎ Acted past g → HoldsAt head past → IsMade g → Stands head.osts past g → g.reply.txn.0 ≤ (disk_of head.osts head.clients past).committed
+    → is_life g.reply.who (disk_of head.osts head.clients past).removed ≡ false → g.reply.xid.0 ≤ (slot_in (disk_of head.osts head.clients past).slots g.reply.who g.tag).taken
+idle_high head past d none g (inl q) h m s low out = let same : d.reply.txn.0 ≡ g.reply.txn.0 = ap (λ (v : Deed). v.reply.txn.0) q in absurd (omega arith)
+idle_high head past d none g (inr b) h m s low out = h.disk.high g b m s low out
+
 pub keeps_disk : (head : Head) (past : List Line) (stamp : Stamp) (node : Node) (e : Entry) → EntryOf head past (turn stamp node) node e → IsPlaced head past (line (turn stamp node) e) → HoldsAt head past → DiskSlots head.osts head.clients (line (turn stamp node) e ∷ past)
 keeps_disk head past stamp (Client c) (Send to m) ok p h =
     record {
@@ -236,11 +243,28 @@ keeps_disk head past stamp (Client c) (Heard t f r) ok p h =
 keeps_disk head past stamp (Target t) (Act d) ok p h =
     let new : List Line = line (turn stamp (Target t)) (Act d) ∷ past in
     record {
-      high = λ g a m s low out. ⊎_elim
-          (λ (q : d ≡ g). let none : d.reply.txn.0 ≡ 0 = ap (λ (v : Txn). v.0) (acted head.osts past (turn stamp (Target t)) t d ok).number in let same : d.reply.txn.0 ≡ g.reply.txn.0 = ap
-          (λ (v : Deed). v.reply.txn.0) q in absurd (omega arith))
-          (λ (b : Acted past g). h.disk.high g b m s low out)
-          a;
+      high = λ g a. idle_high head past d (ap (λ (v : Txn). v.0) (acted head.osts past (turn stamp (Target t)) t d ok).number) g a h;
+      kept = λ who tag k e. stored_more head.osts past new (disk_of head.osts head.clients past).committed who tag k (λ g a. inr a) (λ g s. s) (λ r. r) (h.disk.kept who tag k e);
+      slots = h.disk.slots;
+    }
+keeps_disk head past stamp (Target t) (Wait lock d) ok p h =
+    let new : List Line = line (turn stamp (Target t)) (Wait lock d) ∷ past in
+    record {
+      high = λ g a. idle_high head past d (told_number head.osts past d (wait_told head.osts past (turn stamp (Target t)) lock d ok.1)) g a h;
+      kept = λ who tag k e. stored_more head.osts past new (disk_of head.osts head.clients past).committed who tag k (λ g a. inr a) (λ g s. s) (λ r. r) (h.disk.kept who tag k e);
+      slots = h.disk.slots;
+    }
+keeps_disk head past stamp (Target t) (Answers d) ok p h =
+    let new : List Line = line (turn stamp (Target t)) (Answers d) ∷ past in
+    record {
+      high = λ g a. idle_high head past d (told_number head.osts past d (answers_told head.osts past (turn stamp (Target t)) t d ok.1)) g a h;
+      kept = λ who tag k e. stored_more head.osts past new (disk_of head.osts head.clients past).committed who tag k (λ g a. inr a) (λ g s. s) (λ r. r) (h.disk.kept who tag k e);
+      slots = h.disk.slots;
+    }
+keeps_disk head past stamp (Target t) (Grant lock None) ok p h =
+    let new : List Line = line (turn stamp (Target t)) (Grant lock None) ∷ past in
+    record {
+      high = λ g a. ⊎_elim (λ (q : ◌≡◌ {A = Option Deed} None (Some g)). absurd (cc)) (λ (b : Acted past g). h.disk.high g b) a;
       kept = λ who tag k e. stored_more head.osts past new (disk_of head.osts head.clients past).committed who tag k (λ g a. inr a) (λ g s. s) (λ r. r) (h.disk.kept who tag k e);
       slots = h.disk.slots;
     }
@@ -249,7 +273,7 @@ keeps_disk head past stamp (Target t) (Made d) ok p h =
     record {
       high = λ g a m s low out. ⊎_elim
           (λ (q : d ≡ g).
-          let number : d.reply.txn.0 ≡ (server_of head.osts past).boot * 4294967296 + ((server_of head.osts past).count + 1) = ap (λ (v : Deed). v.reply.txn.0) ok.is in
+          let number : d.reply.txn.0 ≡ (server_of head.osts past).boot * 4294967296 + ((server_of head.osts past).count + 1) = ap (λ (v : Txn). v.0) (makes head.osts past (turn stamp (Target t)) t d ok).number in
           let same : d.reply.txn.0 ≡ g.reply.txn.0 = ap (λ (v : Deed). v.reply.txn.0) q in
           let top = h.history.top in
           let there = h.history.on_disk in
@@ -277,7 +301,8 @@ keeps_disk head past stamp (Target t) (Close o) ok p h =
     }
 keeps_disk head past stamp (Client c) (Act d) ok p h = absurd ok
 keeps_disk head past stamp (Client c) (Grant lock asked) ok p h = absurd ok
-keeps_disk head past stamp (Target t) (Grant lock None) ok p h = absurd ok
+keeps_disk head past stamp (Client c) (Wait lock d) ok p h = absurd ok
+keeps_disk head past stamp (Client c) (Answers d) ok p h = absurd ok
 keeps_disk head past stamp (Client c) (Made d) ok p h = absurd ok
 keeps_disk head past stamp (Client c) (Commit to batch) ok p h = absurd ok
 keeps_disk head past stamp (Client c) (Boot boot there) ok p h = absurd ok

@@ -4,13 +4,13 @@ use Rattle.std.proofs.Common.{ℕ, List, [], ◌∷◌, Some, None}
 use Rattle.lu_base.specs.declared.ids.Node.{Node}
 use Rattle.lu_base.specs.declared.ids.Node.TheVariants.{Client, Target}
 use Rattle.lu_base.specs.declared.ids.Stamp.{Stamp}
-use Rattle.lu_words.specs.Words.{Entry, Flies, Heard, Send, Act, Txn as Made, Grant, Commit, Close, Enters, Life, Evict, Joined, Line, line}
+use Rattle.lu_words.specs.Words.{Entry, Flies, Heard, Send, Act, Txn as Made, Grant, Wait, Answers, Asks, Ends, Commit, Close, Enters, Life, Evict, Joined, Line, line}
 use Rattle.lu_covered.specs.Heads.{Head}
 use Rattle.lu_guards.proofs.StoryGuards.{EntryOf}
 use Rattle.lu_facts.proofs.Groups.{turn, Done, HoldsAt}
 use Rattle.lu_facts.proofs.DoneSends.{done_flies, done_life, done_send, done_heard}
-use Rattle.lu_facts.proofs.DoneActs.{done_enters, done_act, done_grant, done_txn}
-use Rattle.lu_facts.proofs.DoneLives.{done_evict, done_joined, came, done_commit}
+use Rattle.lu_facts.proofs.DoneActs.{done_enters, done_act, done_wait, done_answers, done_grant, done_promoted, done_txn}
+use Rattle.lu_facts.proofs.DoneLives.{done_evict, done_joined, came, done_commit, done_asks, done_ends}
 use Rattle.lu_facts.proofs.DoneCloses.{done_close}
 
 pub done_start : (osts clients : ℕ) → Done osts clients []
@@ -20,6 +20,7 @@ done_start osts clients =
       boots = λ d a. absurd a;
       numbers = λ d a. absurd a;
       bare = λ d a. absurd a;
+      plain = λ d a. absurd a;
       high = λ d a. absurd a;
       kept = λ who tag k e. absurd (cc);
       slots = λ who tag k e. absurd (cc);
@@ -28,6 +29,7 @@ done_start osts clients =
       known = λ who x i. absurd i;
       answered = λ who f r i. absurd i;
       waits = λ r i. absurd i;
+      glimpses = λ g i. absurd i;
       sent = λ from to m s. absurd s;
       once = λ d e a. absurd a;
       alone = λ who f r d e i. absurd i;
@@ -36,8 +38,8 @@ done_start osts clients =
     }
 
 pub keeps_done : (head : Head) (past : List Line) (stamp : Stamp) (node : Node) (e : Entry) → EntryOf head past (turn stamp node) node e → HoldsAt head past → Done head.osts head.clients (line (turn stamp node) e ∷ past)
-keeps_done head past stamp (Client c) (Send to m) ok h = done_send head past stamp (Client c) to m ok h.phase h.numbers h.done
-keeps_done head past stamp (Target t) (Send to m) ok h = done_send head past stamp (Target t) to m ok h.phase h.numbers h.done
+keeps_done head past stamp (Client c) (Send to m) ok h = done_send head past stamp (Client c) to m ok h
+keeps_done head past stamp (Target t) (Send to m) ok h = done_send head past stamp (Target t) to m ok h
 keeps_done head past stamp (Client c) (Flies t f) ok h = done_flies head.osts head.clients past stamp c t f h.done
 keeps_done head past stamp (Client c) (Heard t f k) ok h = done_heard head past stamp c t f k ok h
 keeps_done head past stamp (Client c) (Life who) ok h = done_life head.osts head.clients past stamp c who ok h.done
@@ -51,7 +53,13 @@ keeps_done head past stamp (Target t) (Made d) ok h = done_txn head past stamp t
 keeps_done head past stamp (Target t) (Grant lock (Some d)) ok h = done_grant head past stamp t h lock d ok
 keeps_done head past stamp (Client c) (Act d) ok h = absurd ok
 keeps_done head past stamp (Client c) (Grant lock asked) ok h = absurd ok
-keeps_done head past stamp (Target t) (Grant lock None) ok h = absurd ok
+keeps_done head past stamp (Target t) (Grant lock None) ok h = done_promoted head past stamp t h lock
+keeps_done head past stamp (Target t) (Wait lock d) ok h = done_wait head past stamp t h lock d ok.1
+keeps_done head past stamp (Target t) (Answers d) ok h = done_answers head past stamp t h d ok.1
+keeps_done head past stamp (Target t) (Asks g) ok h = done_asks head past stamp t g ok.1 h.done
+keeps_done head past stamp (Target t) (Ends g) ok h = done_ends head.osts head.clients past stamp t g h.done
+keeps_done head past stamp (Client c) (Wait lock d) ok h = absurd ok
+keeps_done head past stamp (Client c) (Answers d) ok h = absurd ok
 keeps_done head past stamp (Client c) (Made d) ok h = absurd ok
 keeps_done head past stamp (Client c) (Close o) ok h = absurd ok
 keeps_done head past stamp (Target t) (Flies u f) ok h = absurd ok

@@ -1,5 +1,5 @@
 -- What was done and said, as a request enters, or acts, or gets its lock: it acts once, of a number above all that counts of its life and tag.
-use Rattle.std.proofs.Common.{◌≡◌, ℕ, ◌+◌, ◌<◌, ◌≤◌, true, false, List, [], ◌∷◌, Option, Some, ◌⊎◌, inl, inr, ⊎_elim, refl, sym, subst, ap, ◌∙◌, arith}
+use Rattle.std.proofs.Common.{◌≡◌, ℕ, ◌+◌, ◌<◌, ◌≤◌, true, false, List, [], ◌∷◌, Option, Some, None, ◌⊎◌, inl, inr, ⊎_elim, refl, sym, subst, ap, ◌∙◌, arith}
 use Rattle.std.specs.Prelude.{nat_eq, not, ◌&&◌, if◌then◌else◌}
 use Rattle.std.proofs.lemmas.Bool.{cond_both, not-true}
 use Rattle.lu_base.specs.declared.ids.Node.{Node}
@@ -13,25 +13,26 @@ use Rattle.lu_msg.specs.declared.messages.Message.{Message}
 use Rattle.lu_msg.specs.declared.messages.Message.TheVariants as message
 use Rattle.lu_msg.specs.declared.messages.Reply.{Reply as ReplyTo}
 use Rattle.lu_msg.specs.declared.messages.Request.{Request as RequestOf}
-use Rattle.lu_words.specs.Carried.{Deed, Flight, Slot}
-use Rattle.lu_words.specs.Words.{Act, Txn as Made, Grant, Enters, Line, line, same_life}
+use Rattle.lu_machine.specs.Footprint.{answer}
+use Rattle.lu_words.specs.Carried.{Deed, Flight, Glimpse, Slot}
+use Rattle.lu_words.specs.Words.{Act, Txn as Made, Grant, Wait, Answers, Enters, Line, line, same_life}
 use Rattle.lu_target_rows.specs.Phase.{first_of}
 use Rattle.lu_client_rows.specs.Caches.{brought}
 use Rattle.lu_covered.specs.TargetParts.{is_request_of, without_request, entered, answered, is_slot_of}
 use Rattle.lu_covered.specs.TargetStates.{server_of, slot_of, closed_of, next_number}
 use Rattle.lu_covered.specs.TargetCloses.{is_lost}
-use Rattle.lu_covered.specs.Deeds.{deed}
-use Rattle.lu_covered.specs.ClientStates.{life_of}
+use Rattle.lu_covered.specs.ClientStates.{life_of, brings_cookie}
 use Rattle.lu_covered.specs.Heads.{Head}
 use Rattle.lu_guards.proofs.Guards.{In, Was, Did}
-use Rattle.lu_guards.proofs.StoryGuards.{EntersOk, ActsOk, TxnOk, GrantOk, RangeOk, GrantsOk}
-use Rattle.lu_guards.proofs.Acts.{acted, range_acted}
+use Rattle.lu_guards.proofs.StoryGuards.{EntersOk, ActsOk, TxnsOk, GrantOk, RangeOk, GrantsOk, WaitOk, AnswersOk}
+use Rattle.lu_guards.proofs.Acts.{acted, range_acted, wait_acted, responded, responds_acted, made}
+use Rattle.lu_guards.proofs.Acts.{Made as Transacts}
 use Rattle.lu_guards.proofs.ClientLines.{some_is}
 use Rattle.lu_guards.proofs.Lists.{in_append, in_filter}
 use Rattle.lu_guards.proofs.TargetSlots.{is_slot_self, slot_who}
 use Rattle.lu_facts.proofs.Groups.{turn, Flew, Acted, Hears, HeardAs, HasSlot, IsMade, Stands, Counts, IsAsking, FlewFor, Waits, KeptFor, Newest, Numbers, Done, HoldsAt}
 use Rattle.lu_facts.proofs.DoneGrows.{Grows, asking_more, meant_more, rebuilt_more, kept_more, slot_same, did_newest, did_acted, heard_hears}
-use Rattle.lu_facts.proofs.Brings.{txn_brings}
+use Rattle.lu_facts.proofs.Brings.{txns_brings, txns_plain}
 
 abbrev number : ℕ → Xid
 number n = record { 0 = n }
@@ -116,6 +117,7 @@ module _ (osts clients : ℕ) (past : List Line) (stamp : Stamp) (t : ℕ) (r : 
         boots = h.boots;
         numbers = h.numbers;
         bare = h.bare;
+        plain = h.plain;
         high = λ d a has counts. raised d.reply.who d.tag d.reply.xid.0 (h.high d a has counts);
         kept = λ who tag k. cond_both (is_slot_of who tag r.who r.tag) (entered r) (slot_of who tag past) (λ (s : Slot). s.reply ≡ Some k → KeptFor osts past who tag k)
             (λ q e. absurd (cc))
@@ -131,6 +133,7 @@ module _ (osts clients : ℕ) (past : List Line) (stamp : Stamp) (t : ℕ) (r : 
             (λ (j : In q (server_of osts past).waiting). still_waits q (h.waits q j))
             (λ (j : In q (r ∷ [])). ⊎_elim (λ (e : r ≡ q). subst (Waits osts clients entering) e newest) (λ (v : ⊥). absurd v) j)
             (in_append q (server_of osts past).waiting (r ∷ []) i);
+        glimpses = h.glimpses;
         sent = h.sent;
         once = h.once;
         alone = h.alone;
@@ -149,6 +152,7 @@ record Does (osts clients : ℕ) (past new : List Line) (d : Deed) : Type 0 wher
   last : (e : Deed) → Newest new e → d ≡ e
   slot : (who : Who) (tag : ℕ) → slot_of who tag new ≡ (if is_slot_of who tag d.reply.who d.tag then answered d (slot_of who tag past) else slot_of who tag past)
   waiting : (q : RequestOf) → In q (server_of osts new).waiting → In q (without_request d (server_of osts past).waiting)
+  glimpses : (g : Glimpse) → In g (server_of osts new).glimpses → In g (server_of osts past).glimpses
   sent : (from to : Node) (m : Message) → Was new from to m → Was past from to m
   sends : (from to : Node) (m : Message) → Was past from to m → Was new from to m
   hears : (who : Who) (x : ℕ) → Hears new who x → Hears past who x
@@ -164,6 +168,7 @@ record Does (osts clients : ℕ) (past new : List Line) (d : Deed) : Type 0 wher
   boot : d.reply.boot ≡ closed_of past
   numbers : IsMade d → (first_of d.reply.boot < d.reply.txn.0) × (d.reply.txn.0 ≤ first_of d.reply.boot + 4294967295)
   bare : IsMade d → brought d.op d.reply ≡ []
+  plain : IsMade d → (k : ℕ) → brings_cookie d.op d.reply.answer k ≡ false
   top : IsMade d → (e : Deed) → Acted past e → IsMade e → e.reply.txn.0 < d.reply.txn.0
 
 -- it is of that request
@@ -197,6 +202,7 @@ module _ (osts clients : ℕ) (past new : List Line) (d : Deed) (does : Does ost
         closed = let c = does.closed in omega arith;
         committed = let c = does.committed in omega arith;
         counts = λ b low le. counts_on;
+        stays = λ le n e. does.lost n ∙ e;
       }
 
   taken_is : (who : Who) (tag : ℕ) → (slot_of who tag past).taken ≡ (slot_of who tag new).taken
@@ -316,6 +322,7 @@ module _ (osts clients : ℕ) (past new : List Line) (d : Deed) (does : Does ost
             (λ (b : Acted past e). h.numbers e b)
             (does.acted e a);
         bare = λ e a. ⊎_elim (λ (q : d ≡ e). subst (λ (v : Deed). IsMade v → brought v.op v.reply ≡ []) q does.bare) (λ (b : Acted past e). h.bare e b) (does.acted e a);
+        plain = λ e a. ⊎_elim (λ (q : d ≡ e). subst (λ (v : Deed). IsMade v → (k : ℕ) → brings_cookie v.op v.reply.answer k ≡ false) q does.plain) (λ (b : Acted past e). h.plain e b) (does.acted e a);
         high = λ e a has counts. ⊎_elim
             (λ (q : d ≡ e). subst (λ (v : Deed). v.reply.xid.0 ≤ (slot_of v.reply.who v.tag new).taken) q mine_high)
             (λ (b : Acted past e). taken_same e.reply.who e.tag e.reply.xid.0 (h.high e b (does.has e.reply.who has) (counts_back e counts)))
@@ -341,6 +348,7 @@ module _ (osts clients : ℕ) (past new : List Line) (d : Deed) (does : Does ost
             (g.0, does.more g.0 g.1, counts_on g.0 g.2, g.3, g.4);
         answered = λ who f k i. let g = h.answered who f k (does.hears_as who f k i) in (g.0, does.more g.0 g.1, g.2, g.3, g.4, g.5, g.6);
         waits = keeps_waiting;
+        glimpses = λ g i. asking_more osts past new grows g.request (h.glimpses g (does.glimpses g i));
         sent = λ from to m s. meant_more osts past new grows to m (h.sent from to m (does.sent from to m s));
         once = λ a b i j m n. mine_once a b (does.acted a i) (does.acted b j) (counts_back a m) (counts_back b n);
         alone = λ who f k a b i has p is q made stands. mine_alone who f k a b (does.hears_as who f k i) (does.has who has) (does.acted a p) is (does.acted b q) made (stands_back b stands);
@@ -353,8 +361,7 @@ module _ (osts clients : ℕ) (past new : List Line) (d : Deed) (does : Does ost
 module _ (head : Head) (past : List Line) (stamp : Stamp) (t : ℕ) (h : HoldsAt head past) where
   pub done_act : (d : Deed) → ActsOk head.osts past (turn stamp (Target t)) t d → Done head.osts head.clients (line (turn stamp (Target t)) (Act d) ∷ past)
   done_act d ok =
-      let a = acted head.osts past (turn stamp (Target t)) t d ok in
-      let number : d.reply.txn.0 ≡ 0 = ap (λ (v : TxnOf). v.0) a.number in
+      let k = acted head.osts past (turn stamp (Target t)) t d ok in
       done_does head.osts head.clients past (line (turn stamp (Target t)) (Act d) ∷ past) d
       (record {
         flew = λ w f i. i;
@@ -364,6 +371,7 @@ module _ (head : Head) (past : List Line) (stamp : Stamp) (t : ℕ) (h : HoldsAt
         last = λ g n. n;
         slot = λ who tag. refl;
         waiting = λ q i. i;
+        glimpses = λ g i. i;
         sent = λ from to m s. s;
         sends = λ from to m s. s;
         hears = λ w x q. q;
@@ -376,18 +384,85 @@ module _ (head : Head) (past : List Line) (stamp : Stamp) (t : ℕ) (h : HoldsAt
         has = λ w q. q;
         had = λ w q. q;
         low = h.phase.closed;
-        boot = a.boot ∙ sym a.serves.closed;
-        numbers = λ m. absurd (omega (arith, m, number));
-        bare = λ m. absurd (omega (arith, m, number));
-        top = λ m. absurd (omega (arith, m, number));
+        boot = k.boot ∙ sym k.serves.closed;
+        numbers = λ m. absurd (let z : d.reply.txn.0 ≡ 0 = ap (λ (v : TxnOf). v.0) k.number in omega (arith, m, z));
+        bare = λ m. absurd (let z : d.reply.txn.0 ≡ 0 = ap (λ (v : TxnOf). v.0) k.number in omega (arith, m, z));
+        plain = λ m. absurd (let z : d.reply.txn.0 ≡ 0 = ap (λ (v : TxnOf). v.0) k.number in omega (arith, m, z));
+        top = λ m. absurd (let z : d.reply.txn.0 ≡ 0 = ap (λ (v : TxnOf). v.0) k.number in omega (arith, m, z));
       })
-      a.request (record { who = a.who; xid = a.xid; tag = a.tag; op = a.of_op }) (h.done.waits a.request a.waits) h.done
+      k.request (record { who = k.who; xid = k.xid; tag = k.tag; op = k.of_op }) (h.done.waits k.request k.waits) h.done
 
-  -- a lock on an object is granted
+  -- who asks for a lock is told to wait
+  pub done_wait : (lock : Lock) (d : Deed) → WaitOk head.osts past (turn stamp (Target t)) lock d → Done head.osts head.clients (line (turn stamp (Target t)) (Wait lock d) ∷ past)
+  done_wait lock d ok =
+      let k = wait_acted head.osts past (turn stamp (Target t)) lock d ok in
+      done_does head.osts head.clients past (line (turn stamp (Target t)) (Wait lock d) ∷ past) d
+      (record {
+        flew = λ w f i. i;
+        acted = λ g a. a;
+        more = λ g a. inr a;
+        here = inl refl;
+        last = λ g n. n;
+        slot = λ who tag. refl;
+        waiting = λ q i. i;
+        glimpses = λ g i. i;
+        sent = λ from to m s. s;
+        sends = λ from to m s. s;
+        hears = λ w x q. q;
+        heard = λ w x q. q;
+        hears_as = λ w f r q. q;
+        lives = λ c. omega arith;
+        closed = refl;
+        committed = refl;
+        lost = λ n. refl;
+        has = λ w q. q;
+        had = λ w q. q;
+        low = h.phase.closed;
+        boot = k.boot ∙ sym k.serves.closed;
+        numbers = λ m. absurd (let z : d.reply.txn.0 ≡ 0 = ap (λ (v : TxnOf). v.0) k.number in omega (arith, m, z));
+        bare = λ m. absurd (let z : d.reply.txn.0 ≡ 0 = ap (λ (v : TxnOf). v.0) k.number in omega (arith, m, z));
+        plain = λ m. absurd (let z : d.reply.txn.0 ≡ 0 = ap (λ (v : TxnOf). v.0) k.number in omega (arith, m, z));
+        top = λ m. absurd (let z : d.reply.txn.0 ≡ 0 = ap (λ (v : TxnOf). v.0) k.number in omega (arith, m, z));
+      })
+      k.request (record { who = k.who; xid = k.xid; tag = k.tag; op = k.of_op }) (h.done.waits k.request k.waits) h.done
+
+  pub done_answers : (d : Deed) → AnswersOk head.osts past (turn stamp (Target t)) t d → Done head.osts head.clients (line (turn stamp (Target t)) (Answers d) ∷ past)
+  done_answers d ok =
+      let k = responds_acted head.osts past (turn stamp (Target t)) t d (responded head.osts past (turn stamp (Target t)) t d ok) in
+      done_does head.osts head.clients past (line (turn stamp (Target t)) (Answers d) ∷ past) d
+      (record {
+        flew = λ w f i. i;
+        acted = λ g a. a;
+        more = λ g a. inr a;
+        here = inl refl;
+        last = λ g n. n;
+        slot = λ who tag. refl;
+        waiting = λ q i. i;
+        glimpses = λ g i. i;
+        sent = λ from to m s. s;
+        sends = λ from to m s. s;
+        hears = λ w x q. q;
+        heard = λ w x q. q;
+        hears_as = λ w f r q. q;
+        lives = λ c. omega arith;
+        closed = refl;
+        committed = refl;
+        lost = λ n. refl;
+        has = λ w q. q;
+        had = λ w q. q;
+        low = h.phase.closed;
+        boot = k.boot ∙ sym k.serves.closed;
+        numbers = λ m. absurd (let z : d.reply.txn.0 ≡ 0 = ap (λ (v : TxnOf). v.0) k.number in omega (arith, m, z));
+        bare = λ m. absurd (let z : d.reply.txn.0 ≡ 0 = ap (λ (v : TxnOf). v.0) k.number in omega (arith, m, z));
+        plain = λ m. absurd (let z : d.reply.txn.0 ≡ 0 = ap (λ (v : TxnOf). v.0) k.number in omega (arith, m, z));
+        top = λ m. absurd (let z : d.reply.txn.0 ≡ 0 = ap (λ (v : TxnOf). v.0) k.number in omega (arith, m, z));
+      })
+      k.request (record { who = k.who; xid = k.xid; tag = k.tag; op = k.of_op }) (h.done.waits k.request k.waits) h.done
+
+  -- a lock on an object is granted at once
   done_range : (lock : Lock) (d : Deed) → RangeOk head.osts past (turn stamp (Target t)) lock d → Done head.osts head.clients (line (turn stamp (Target t)) (Grant lock (Some d)) ∷ past)
   done_range lock d ok =
-      let a = range_acted head.osts past (turn stamp (Target t)) lock d ok in
-      let number : d.reply.txn.0 ≡ 0 = ap (λ (v : TxnOf). v.0) a.number in
+      let k = range_acted head.osts past (turn stamp (Target t)) lock d ok in
       done_does head.osts head.clients past (line (turn stamp (Target t)) (Grant lock (Some d)) ∷ past) d
       (record {
         flew = λ w f i. i;
@@ -397,6 +472,7 @@ module _ (head : Head) (past : List Line) (stamp : Stamp) (t : ℕ) (h : HoldsAt
         last = λ g n. some_is d g n;
         slot = λ who tag. refl;
         waiting = λ q i. i;
+        glimpses = λ g i. i;
         sent = λ from to m s. s;
         sends = λ from to m s. s;
         hears = λ w x q. q;
@@ -409,12 +485,13 @@ module _ (head : Head) (past : List Line) (stamp : Stamp) (t : ℕ) (h : HoldsAt
         has = λ w q. q;
         had = λ w q. q;
         low = h.phase.closed;
-        boot = a.boot ∙ sym a.serves.closed;
-        numbers = λ m. absurd (omega (arith, m, number));
-        bare = λ m. absurd (omega (arith, m, number));
-        top = λ m. absurd (omega (arith, m, number));
+        boot = k.boot ∙ sym k.serves.closed;
+        numbers = λ m. absurd (let z : d.reply.txn.0 ≡ 0 = ap (λ (v : TxnOf). v.0) k.number in omega (arith, m, z));
+        bare = λ m. absurd (let z : d.reply.txn.0 ≡ 0 = ap (λ (v : TxnOf). v.0) k.number in omega (arith, m, z));
+        plain = λ m. absurd (let z : d.reply.txn.0 ≡ 0 = ap (λ (v : TxnOf). v.0) k.number in omega (arith, m, z));
+        top = λ m. absurd (let z : d.reply.txn.0 ≡ 0 = ap (λ (v : TxnOf). v.0) k.number in omega (arith, m, z));
       })
-      a.request (record { who = a.who; xid = a.xid; tag = a.tag; op = a.of_op }) (h.done.waits a.request a.waits) h.done
+      k.request (record { who = k.who; xid = k.xid; tag = k.tag; op = k.of_op }) (h.done.waits k.request k.waits) h.done
 
   -- a lock on names is shown: that changes nothing
   module _ (lock : Lock) (d : Deed) (ok : GrantOk head.osts past lock d) where
@@ -441,6 +518,7 @@ module _ (head : Head) (past : List Line) (stamp : Stamp) (t : ℕ) (h : HoldsAt
           boots = λ e a. k.boots e (was_acted e a);
           numbers = λ e a. k.numbers e (was_acted e a);
           bare = λ e a. k.bare e (was_acted e a);
+          plain = λ e a. k.plain e (was_acted e a);
           high = λ e a has counts. subst (λ (s : Slot). e.reply.xid.0 ≤ s.taken) (sym (slot_is e.reply.who e.tag)) (k.high e (was_acted e a) has counts);
           kept = λ who tag r e. kept_more head.osts past showing who tag r (λ b a. inr a) (λ b a c. c) (λ q. q) (k.kept who tag r (ap (λ (s : Slot). s.reply) (sym (slot_is who tag)) ∙ e));
           slots = λ who tag r. subst (λ (s : Slot). s.reply ≡ Some r → (r.who ≡ who) × (r.xid.0 ≡ s.taken)) (sym (slot_is who tag)) (k.slots who tag r);
@@ -457,8 +535,9 @@ module _ (head : Head) (past : List Line) (stamp : Stamp) (t : ℕ) (h : HoldsAt
                 taken = w.taken ∙ ap (λ (s : Slot). s.taken) (sym (slot_is r.who r.tag));
                 new = λ e a. w.new e (was_acted e a);
               };
+          glimpses = k.glimpses;
           sent = λ from to m s. meant_more head.osts past showing
-              (record { flew = λ w f i. i; acted = λ e a. inr a; lives = λ c. omega arith; closed = omega arith; committed = omega arith; counts = λ b low le e c. c }) to m (k.sent from to m s);
+              (record { flew = λ w f i. i; acted = λ e a. inr a; lives = λ c. omega arith; closed = omega arith; committed = omega arith; counts = λ b low le e c. c; stays = λ le n e. e }) to m (k.sent from to m s);
           once = λ a b i j. k.once a b (was_acted a i) (was_acted b j);
           alone = λ who f r a b i has p is q. k.alone who f r a b i has (was_acted a p) is (was_acted b q);
           rises = λ a b i j. k.rises a b (was_acted a i) (was_acted b j);
@@ -469,11 +548,44 @@ module _ (head : Head) (past : List Line) (stamp : Stamp) (t : ℕ) (h : HoldsAt
   done_grant lock d (inl ok) = done_shown lock d ok.1
   done_grant lock d (inr ok) = done_range lock d ok.1
 
-  pub done_txn : (d : Deed) → TxnOk head.osts past (turn stamp (Target t)) d → Done head.osts head.clients (line (turn stamp (Target t)) (Made d) ∷ past)
-  done_txn d ok =
-      let e : Deed = deed head.osts (server_of head.osts past) (turn stamp (Target t)) ok.request (next_number (server_of head.osts past)) [] in
-      subst (λ (d : Deed). Done head.osts head.clients (line (turn stamp (Target t)) (Made d) ∷ past)) (sym ok.is)
-      (done_does head.osts head.clients past (line (turn stamp (Target t)) (Made e) ∷ past) e
+  -- a lock that had waited is granted: nothing is done for anybody just then
+  pub done_promoted : (lock : Lock) → Done head.osts head.clients (line (turn stamp (Target t)) (Grant lock None) ∷ past)
+  done_promoted lock =
+      let k = h.done in
+      let new : List Line = line (turn stamp (Target t)) (Grant lock None) ∷ past in
+      record {
+        flew = λ e a. k.flew e (was e a);
+        boots = λ e a. k.boots e (was e a);
+        numbers = λ e a. k.numbers e (was e a);
+        bare = λ e a. k.bare e (was e a);
+        plain = λ e a. k.plain e (was e a);
+        high = λ e a has counts. k.high e (was e a) has counts;
+        kept = λ who tag r e. kept_more head.osts past new who tag r (λ b a. inr a) (λ b a c. c) (λ q. q) (k.kept who tag r e);
+        slots = k.slots;
+        heard = λ who x i. let g = k.heard who x i in (g.0, inr g.1, g.2, g.3);
+        newest = λ e n. absurd (cc);
+        known = λ who x i has from u r s w e le. let g = k.known who x i has from u r s w e le in (g.0, inr g.1, g.2, g.3, g.4);
+        answered = λ who f r i. let g = k.answered who f r i in (g.0, inr g.1, g.2, g.3, g.4, g.5, g.6);
+        waits = λ r i. let w = k.waits r i in record { was = w.was; asks = w.asks; current = w.current; has = w.has; taken = w.taken; new = λ e a. w.new e (was e a) };
+        glimpses = k.glimpses;
+        sent = λ from to m s. meant_more head.osts past new
+            (record { flew = λ w f i. i; acted = λ e a. inr a; lives = λ c. omega arith; closed = omega arith; committed = omega arith; counts = λ b low le e c. c; stays = λ le n e. e }) to m (k.sent from to m s);
+        once = λ a b i j. k.once a b (was a i) (was b j);
+        alone = λ who f r a b i has p is q. k.alone who f r a b i has (was a p) is (was b q);
+        rises = λ a b i j. k.rises a b (was a i) (was b j);
+        single = λ a b i j. k.single a b (was a i) (was b j);
+      }
+    where
+      was : (e : Deed) → Acted (line (turn stamp (Target t)) (Grant lock None) ∷ past) e → Acted past e
+      was e = ⊎_elim (λ (q : ◌≡◌ {A = Option Deed} None (Some e)). absurd (cc)) (λ (a : Acted past e). a)
+
+  -- a transaction has the next number
+  done_made : (d : Deed) → Transacts head.osts past (turn stamp (Target t)) d → brought d.op d.reply ≡ [] → ((k : ℕ) → brings_cookie d.op d.reply.answer k ≡ false) → Done head.osts head.clients (line (turn stamp (Target t)) (Made d) ∷ past)
+  done_made d k bare plain =
+      let n : d.reply.txn.0 ≡ (next_number (server_of head.osts past)).0 = ap (λ (v : TxnOf). v.0) k.number in
+      let b = k.boot in
+      let room = k.numbers in
+      done_does head.osts head.clients past (line (turn stamp (Target t)) (Made d) ∷ past) d
       (record {
         flew = λ w f i. i;
         acted = λ g a. a;
@@ -482,6 +594,7 @@ module _ (head : Head) (past : List Line) (stamp : Stamp) (t : ℕ) (h : HoldsAt
         last = λ g n. n;
         slot = λ who tag. refl;
         waiting = λ q i. i;
+        glimpses = λ g i. i;
         sent = λ from to m s. s;
         sends = λ from to m s. s;
         hears = λ w x q. q;
@@ -494,9 +607,15 @@ module _ (head : Head) (past : List Line) (stamp : Stamp) (t : ℕ) (h : HoldsAt
         has = λ w q. q;
         had = λ w q. q;
         low = h.phase.closed;
-        boot = sym ok.serves.closed;
-        numbers = λ m. let n = ok.numbers in (omega arith, omega arith);
-        bare = λ m. subst (λ (v : Deed). brought v.op v.reply ≡ []) ok.is (txn_brings head.osts past (turn stamp (Target t)) d ok);
-        top = λ m g a n. let le = h.history.last g a n in omega arith;
+        boot = k.boot ∙ sym k.serves.closed;
+        numbers = λ m. (omega arith, omega arith);
+        bare = λ m. bare;
+        plain = λ m. plain;
+        top = λ m g a x. let le = h.history.last g a x in omega arith;
       })
-      ok.request (record { who = refl; xid = refl; tag = refl; op = refl }) (h.done.waits ok.request ok.waits) h.done)
+      k.request (record { who = k.who; xid = k.xid; tag = k.tag; op = k.of_op }) (h.done.waits k.request k.waits) h.done
+
+  pub done_txn : (d : Deed) → TxnsOk head.osts past (turn stamp (Target t)) t d → Done head.osts head.clients (line (turn stamp (Target t)) (Made d) ∷ past)
+  done_txn d ok =
+      let at = turn stamp (Target t) in
+      done_made d (made head.osts past at t d ok) (txns_brings head.osts past at t d ok) (λ k. txns_plain head.osts past at t d k ok)

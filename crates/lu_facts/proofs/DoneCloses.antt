@@ -194,6 +194,7 @@ module _ (head : Head) (past : List Line) (stamp : Stamp) (t : ℕ) (o : Outcome
         closed = let lt = newer in omega arith;
         committed = close_commits;
         counts = λ b low le. let lt = newer in absurd (omega arith);
+        stays = λ le. let lt = newer in absurd (omega arith);
       }
 
   pub done_close : Done head.osts head.clients closes
@@ -204,6 +205,7 @@ module _ (head : Head) (past : List Line) (stamp : Stamp) (t : ℕ) (o : Outcome
         boots = λ d a. let b = k.boots d a in let lt = old_boot d a in (b.0, omega arith);
         numbers = k.numbers;
         bare = k.bare;
+        plain = k.plain;
         high = λ d a has counts. let m = counts_made d a counts in close_high d a has m.0 m.1;
         kept = close_kept;
         slots = close_slots;
@@ -212,6 +214,7 @@ module _ (head : Head) (past : List Line) (stamp : Stamp) (t : ℕ) (o : Outcome
         known = λ who x i has from u r w q e le. let low = (k.sent from (Target u) (message.Request r) w).3 in let lt = newer in absurd (omega arith);
         answered = k.answered;
         waits = λ r i. absurd i;
+        glimpses = λ g i. absurd i;
         sent = λ from to m s. meant_more head.osts past closes close_grows to m (k.sent from to m s);
         once = λ d e a b m n. k.once d e a b (counts_before d a m) (counts_before e b n);
         alone = λ who f r d e i has a is b m s.

@@ -1,18 +1,20 @@
 -- What was done and said, over a line that leaves most of it: what only grows, and what stays of slots, messages and requests that wait.
-use Rattle.std.proofs.Common.{◌≡◌, ℕ, ◌≤◌, true, List, [], ◌∷◌, inl, inr, ⊎_elim, ap, ◌∙◌, arith}
+use Rattle.std.proofs.Common.{◌≡◌, ℕ, ◌≤◌, true, false, List, [], ◌∷◌, inl, inr, ⊎_elim, ap, ◌∙◌, arith}
 use Rattle.lu_base.specs.declared.ids.Node.{Node}
 use Rattle.lu_base.specs.declared.ids.Node.TheVariants.{Client, Target}
 use Rattle.lu_base.specs.declared.ids.Who.{Who}
+use Rattle.lu_msg.specs.declared.messages.GrantNotice.{GrantNotice}
 use Rattle.lu_msg.specs.declared.messages.Message.{Message}
 use Rattle.lu_msg.specs.declared.messages.Message.TheVariants as message
 use Rattle.lu_msg.specs.declared.messages.Reply.{Reply as ReplyTo}
 use Rattle.lu_msg.specs.declared.messages.Request.{Request as RequestOf}
 use Rattle.lu_words.specs.Carried.{Deed, Flight}
-use Rattle.lu_words.specs.Words.{Entry, Heard, Grant, Act, Txn as Made, Line, line}
+use Rattle.lu_words.specs.Words.{Entry, Heard, Grant, Wait, Answers, Act, Txn as Made, Line, line}
 use Rattle.lu_covered.specs.TargetStates.{server_of, slot_of, closed_of}
+use Rattle.lu_covered.specs.TargetCloses.{is_lost}
 use Rattle.lu_covered.specs.ClientStates.{life_of, is_own}
 use Rattle.lu_guards.proofs.Guards.{Was, Did}
-use Rattle.lu_facts.proofs.Groups.{Flew, Acted, Hears, HeardAs, IsAsking, RepliesTo, Meant, Counts, Rebuilt, KeptFor, Newest}
+use Rattle.lu_facts.proofs.Groups.{Flew, Acted, Hears, HeardAs, IsAsking, RepliesTo, FlewAs, IsSeen, Notifies, Meant, Counts, Rebuilt, KeptFor, Newest}
 
 -- ---- slots
 
@@ -29,6 +31,7 @@ pub record Grows (osts : ℕ) (past new : List Line) : Type 0 where
   pub closed : closed_of past ≤ closed_of new
   pub committed : (server_of osts past).committed.0 ≤ (server_of osts new).committed.0
   pub counts : (boot : ℕ) → boot ≤ closed_of past → closed_of new ≤ boot → (d : Deed) → Counts osts past d → Counts osts new d
+  pub stays : closed_of new ≤ closed_of past → (n : ℕ) → is_lost osts past n ≡ false → is_lost osts new n ≡ false
 
 pub asking_more : (osts : ℕ) (past new : List Line) → Grows osts past new → (r : RequestOf) → IsAsking past r → IsAsking new r
 asking_more osts past new g r a = let low = a.3 in let more = g.closed in (a.0, g.flew r.who a.0 a.1, a.2, omega arith)
@@ -50,6 +53,28 @@ replies_more osts past new g c k h =
       counts = λ le. g.counts k.boot h.boot le h.deed (h.counts (omega arith));
     }
 
+-- what was seen stays so
+pub seen_more : (osts : ℕ) (past new : List Line) → Grows osts past new → (n : ℕ) → IsSeen osts past n → IsSeen osts new n
+seen_more osts past new g n (inl le) = let more = g.committed in inl (omega arith)
+seen_more osts past new g n (inr e) = inr (e.0, g.acted e.0 e.1, e.2, e.3)
+
+notifies_more : (osts : ℕ) (past new : List Line) → Grows osts past new → (c : ℕ) (m : GrantNotice) → Notifies osts past c m → Notifies osts new c m
+notifies_more osts past new g c m h =
+    let closed = g.closed in
+    let committed = g.committed in
+    let boot = h.boot in
+    let upto = h.committed in
+    record {
+      to = h.to;
+      boot = omega arith;
+      committed = omega arith;
+      saw = λ n i. seen_more osts past new g n (h.saw n i);
+      fresh = λ le n i. g.stays (omega arith) n (h.fresh (omega arith) n i);
+    }
+
+flew_as_more : (osts : ℕ) (past new : List Line) → Grows osts past new → (who : Who) (x : ℕ) → FlewAs past who x → FlewAs new who x
+flew_as_more osts past new g who x h = (h.0, g.flew who h.0 h.1, h.2)
+
 pub meant_more : (osts : ℕ) (past new : List Line) → Grows osts past new → (to : Node) (m : Message) → Meant osts past to m → Meant osts new to m
 meant_more osts past new g (Target t) (message.Request r) h = asking_more osts past new g r h
 meant_more osts past new g (Client c) (message.Reply k) h = replies_more osts past new g c k h
@@ -63,6 +88,10 @@ meant_more osts past new g (Client c) (message.Ready who boot committed) h =
     let closed = g.closed in let low = h.0 in let more = g.committed in let upto = h.2 in (omega arith, h.1, omega arith)
 meant_more osts past new g (Client c) (message.Evicted who boot) h = h
 meant_more osts past new g (Client c) (message.Up boot) h = tt
+meant_more osts past new g (Client c) (message.Grant m) h = notifies_more osts past new g c m h
+meant_more osts past new g (Target t) (message.Where who boot cookie) h = tt
+meant_more osts past new g (Client c) (message.Ask who boot cookie for_who xid) h = (h.0, (h.1.0, g.flew who h.1.0 h.1.1), flew_as_more osts past new g for_who xid.0 h.2)
+meant_more osts past new g (Target t) (message.Size m) h = flew_as_more osts past new g m.for_who m.xid.0 h
 meant_more osts past new g (Target t) _ h = absurd h
 meant_more osts past new g (Client c) _ h = absurd h
 
@@ -86,6 +115,8 @@ did_newest (l ∷ past) d i = by l.entry i
     by (Act e) i = i
     by (Made e) i = i
     by (Grant lock asked) i = i
+    by (Wait lock asked) i = i
+    by (Answers e) i = i
     by _ i = absurd i
 
 pub did_acted : (past : List Line) (d : Deed) → Did past d → Acted past d
@@ -96,6 +127,8 @@ did_acted (l ∷ past) d i = by l.entry i
     by (Act e) i = inl i
     by (Made e) i = inl i
     by (Grant lock asked) i = inl i
+    by (Wait lock asked) i = inl i
+    by (Answers e) i = inl i
     by _ i = absurd i
 
 -- what was heard as that reply was heard

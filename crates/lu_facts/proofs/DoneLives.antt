@@ -1,4 +1,4 @@
--- What was done and said, as a life leaves or comes, or transactions go to the disk.
+-- What was done and said, as a life leaves or comes, transactions go to the disk, or a glimpse waits for a lock's holder.
 use Rattle.std.proofs.Common.{◌≡◌, ℕ, ◌≤◌, List, [], ◌∷◌, ◌⊎◌, inl, inr, ⊎_elim, refl, sym, subst, ap, ◌∙◌, arith}
 use Rattle.std.specs.Prelude.{not}
 use Rattle.lu_base.specs.declared.ids.Node.TheVariants.{Target}
@@ -7,16 +7,17 @@ use Rattle.lu_base.specs.declared.ids.Who.{Who}
 use Rattle.lu_base.specs.declared.locks.Cause.{Cause}
 use Rattle.lu_msg.specs.declared.commits.Batch.{Batch}
 use Rattle.lu_msg.specs.declared.messages.Request.{Request as RequestOf}
-use Rattle.lu_words.specs.Carried.{Deed}
-use Rattle.lu_words.specs.Words.{Commit, Evict, Joined, Line, line}
+use Rattle.lu_words.specs.Carried.{Deed, Glimpse}
+use Rattle.lu_words.specs.Words.{Commit, Evict, Joined, Asks, Ends, Line, line}
 use Rattle.lu_target_rows.specs.Lives.{is_life}
+use Rattle.lu_target_rows.specs.Locks.{same_glimpse}
 use Rattle.lu_covered.specs.TargetStates.{server_of, lives_of, evicted_of}
 use Rattle.lu_covered.specs.Heads.{Head}
 use Rattle.lu_guards.proofs.Guards.{In}
-use Rattle.lu_guards.proofs.StoryGuards.{CommitOk, JoinedOk, ComesOk}
-use Rattle.lu_guards.proofs.Lists.{in_filter}
+use Rattle.lu_guards.proofs.StoryGuards.{CommitOk, JoinedOk, ComesOk, AsksOk}
+use Rattle.lu_guards.proofs.Lists.{in_append, in_filter}
 use Rattle.lu_guards.proofs.LifeLists.{stands_life, life_put_more, life_stays, life_left, gone_not, none_is}
-use Rattle.lu_facts.proofs.Groups.{turn, HasSlot, Had, Waits, Done, Lives, HoldsAt}
+use Rattle.lu_facts.proofs.Groups.{turn, HasSlot, Had, IsAsking, Waits, Done, Lives, HoldsAt}
 use Rattle.lu_facts.proofs.LifeLists.{older_than, put_or}
 use Rattle.lu_facts.proofs.DoneGrows.{meant_more}
 
@@ -42,6 +43,7 @@ module _ (osts clients : ℕ) (past : List Line) (stamp : Stamp) (t : ℕ) (who 
         boots = h.boots;
         numbers = h.numbers;
         bare = h.bare;
+        plain = h.plain;
         high = λ d a has. h.high d a (had d.reply.who has);
         kept = h.kept;
         slots = h.slots;
@@ -50,6 +52,7 @@ module _ (osts clients : ℕ) (past : List Line) (stamp : Stamp) (t : ℕ) (who 
         known = λ w x i has. h.known w x i (had w has);
         answered = h.answered;
         waits = still_waits;
+        glimpses = λ g i. h.glimpses g (in_filter (λ (x : Glimpse). not (is_life x.request.who (who ∷ []))) g (server_of osts past).glimpses i).0;
         sent = h.sent;
         once = h.once;
         alone = λ w f r d e i has. h.alone w f r d e i (had w has);
@@ -81,6 +84,7 @@ module _ (osts clients : ℕ) (past : List Line) (stamp : Stamp) (t : ℕ) (who 
         boots = h.boots;
         numbers = h.numbers;
         bare = h.bare;
+        plain = h.plain;
         high = λ d a has. h.high d a (before d.reply.who has (lives.acted d a));
         kept = h.kept;
         slots = h.slots;
@@ -89,6 +93,7 @@ module _ (osts clients : ℕ) (past : List Line) (stamp : Stamp) (t : ℕ) (who 
         known = λ w x i has. let g = h.heard w x i in h.known w x i (acted_before g.0 w g.2 (lives.acted g.0 g.1) has);
         answered = h.answered;
         waits = λ r i. let w = h.waits r i in record { was = w.was; asks = w.asks; current = w.current; has = life_put_more r.who who (lives_of clients past) w.has; taken = w.taken; new = w.new };
+        glimpses = h.glimpses;
         sent = h.sent;
         once = h.once;
         alone = λ w f r d e i has. let g = h.answered w f r i in h.alone w f r d e i (acted_before g.0 w (sym (ap (λ v. v.who) g.2) ∙ g.3) (lives.acted g.0 g.1) has);
@@ -124,6 +129,7 @@ done_commit head past stamp t to batch ok a =
       boots = h.boots;
       numbers = h.numbers;
       bare = h.bare;
+      plain = h.plain;
       high = h.high;
       kept = h.kept;
       slots = h.slots;
@@ -132,7 +138,65 @@ done_commit head past stamp t to batch ok a =
       known = h.known;
       answered = h.answered;
       waits = h.waits;
-      sent = λ from into m s. meant_more head.osts past new (record { flew = λ w f i. i; acted = λ d b. b; lives = λ c. omega arith; closed = omega arith; committed = commits_rise head past stamp t to batch ok a; counts = λ b low le d q. q }) into m (h.sent from into m s);
+      glimpses = h.glimpses;
+      sent = λ from into m s. meant_more head.osts past new (record { flew = λ w f i. i; acted = λ d b. b; lives = λ c. omega arith; closed = omega arith; committed = commits_rise head past stamp t to batch ok a; counts = λ b low le d q. q; stays = λ le n e. e }) into m (h.sent from into m s);
+      once = h.once;
+      alone = h.alone;
+      rises = h.rises;
+      single = h.single;
+    }
+
+-- ---- a glimpse waits for a lock's holder, or waits no longer
+
+-- one that waits, or the glimpse of a request that waits
+module _ (osts clients : ℕ) (past : List Line) (h : Done osts clients past) where
+  asks_or : (g x : Glimpse) → In g.request (server_of osts past).waiting → In x (server_of osts past).glimpses ⊎ In x (g ∷ []) → IsAsking past x.request
+  asks_or g x w (inl i) = h.glimpses x i
+  asks_or g x w (inr (inl e)) = subst (λ (v : Glimpse). IsAsking past v.request) e (h.waits g.request w).asks
+  asks_or g x w (inr (inr z)) = absurd z
+
+pub done_asks : (head : Head) (past : List Line) (stamp : Stamp) (t : ℕ) (g : Glimpse) → AsksOk head.osts past g → Done head.osts head.clients past → Done head.osts head.clients (line (turn stamp (Target t)) (Asks g) ∷ past)
+done_asks head past stamp t g ok h =
+    record {
+      flew = h.flew;
+      boots = h.boots;
+      numbers = h.numbers;
+      bare = h.bare;
+      plain = h.plain;
+      high = h.high;
+      kept = h.kept;
+      slots = h.slots;
+      heard = h.heard;
+      newest = h.newest;
+      known = h.known;
+      answered = h.answered;
+      waits = h.waits;
+      glimpses = λ x i. asks_or head.osts head.clients past h g x ok.waits (in_append x (server_of head.osts past).glimpses (g ∷ []) i);
+      sent = h.sent;
+      once = h.once;
+      alone = h.alone;
+      rises = h.rises;
+      single = h.single;
+    }
+
+pub done_ends : (osts clients : ℕ) (past : List Line) (stamp : Stamp) (t : ℕ) (g : Glimpse) → Done osts clients past → Done osts clients (line (turn stamp (Target t)) (Ends g) ∷ past)
+done_ends osts clients past stamp t g h =
+    record {
+      flew = h.flew;
+      boots = h.boots;
+      numbers = h.numbers;
+      bare = h.bare;
+      plain = h.plain;
+      high = h.high;
+      kept = h.kept;
+      slots = h.slots;
+      heard = h.heard;
+      newest = h.newest;
+      known = h.known;
+      answered = h.answered;
+      waits = h.waits;
+      glimpses = λ x i. h.glimpses x (in_filter (λ (y : Glimpse). not (same_glimpse g y)) x (server_of osts past).glimpses i).0;
+      sent = h.sent;
       once = h.once;
       alone = h.alone;
       rises = h.rises;

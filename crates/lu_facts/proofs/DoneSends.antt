@@ -1,28 +1,36 @@
 -- What was done and said, as a client asks more, a message goes out, or a reply is heard.
-use Rattle.std.proofs.Common.{◌≡◌, ℕ, ◌<◌, ◌≤◌, true, List, ◌∷◌, ◌⊎◌, inl, inr, ⊎_elim, refl, sym, subst, ap, ◌∙◌, arith}
+use Rattle.std.proofs.Common.{◌≡◌, ℕ, ◌<◌, ◌≤◌, true, false, List, ◌∷◌, ◌⊎◌, inl, inr, ⊎_elim, refl, sym, subst, ap, ◌∙◌, arith}
 use Rattle.lu_base.specs.declared.ids.At.{At}
+use Rattle.lu_base.specs.declared.ids.Cookie.{Cookie}
 use Rattle.lu_base.specs.declared.ids.Node.{Node}
 use Rattle.lu_base.specs.declared.ids.Node.TheVariants.{Client, Target}
 use Rattle.lu_base.specs.declared.ids.Stamp.{Stamp}
 use Rattle.lu_base.specs.declared.ids.Txn.{Txn as TxnOf}
 use Rattle.lu_base.specs.declared.ids.Who.{Who}
 use Rattle.lu_base.specs.declared.ids.Xid.{Xid}
+use Rattle.lu_msg.specs.declared.messages.GrantNotice.{GrantNotice}
 use Rattle.lu_msg.specs.declared.messages.Message.{Message}
 use Rattle.lu_msg.specs.declared.messages.Message.TheVariants as message
 use Rattle.lu_msg.specs.declared.messages.Reply.{Reply as ReplyTo}
 use Rattle.lu_msg.specs.declared.messages.Request.{Request as RequestOf}
+use Rattle.lu_part.specs.declared.parts.Part.{Part}
+use Rattle.lu_machine.specs.Objects.{range}
 use Rattle.lu_words.specs.Carried.{Deed, Flight}
 use Rattle.lu_words.specs.Words.{Flies, Heard, Send, Life, Line, line}
-use Rattle.lu_covered.specs.TargetStates.{Server, server_of, closed_of}
+use Rattle.lu_target_rows.specs.Queues.{extent_of}
+use Rattle.lu_covered.specs.TargetStates.{Server, server_of, closed_of, seen_in}
+use Rattle.lu_covered.specs.TargetCloses.{is_lost}
 use Rattle.lu_covered.specs.Deeds.{again}
 use Rattle.lu_covered.specs.ClientStates.{known_of, life_of, is_own}
 use Rattle.lu_covered.specs.Heads.{Head}
-use Rattle.lu_guards.proofs.Guards.{Was, Did}
+use Rattle.lu_guards.proofs.Guards.{In, Was, Did}
 use Rattle.lu_guards.proofs.StoryGuards.{AskOk, AsksAgain, ReplyOk, HeardOk, LifeOf, SendOf}
+use Rattle.lu_guards.proofs.ObjectGuards.{AskHolderOk, GivesOk}
 use Rattle.lu_guards.proofs.Lists.{own_is}
-use Rattle.lu_facts.proofs.Groups.{turn, Flew, Acted, Hears, HeardAs, HasSlot, Phase, Numbers, life_request, DoneFor, CountsFor, IsAsking, RepliesTo, Meant, Counts, Rebuilt, IsMade, Stands, Done, HoldsAt}
+use Rattle.lu_facts.proofs.Groups.{turn, Flew, Acted, Hears, HeardAs, HasSlot, Phase, Numbers, life_request, DoneFor, CountsFor, IsAsking, RepliesTo, FlewAs, Notifies, Meant, Counts, Rebuilt, IsMade, Stands, Done, History, HoldsAt}
 use Rattle.lu_facts.proofs.Phase.{life_rises}
 use Rattle.lu_facts.proofs.DoneGrows.{Grows, asking_more, meant_more, rebuilt_more, kept_more, did_newest, did_acted}
+use Rattle.lu_facts.proofs.ItemLists.{seen_in_log}
 
 -- ---- one more in flight
 
@@ -31,7 +39,7 @@ module _ (osts clients : ℕ) (past : List Line) (stamp : Stamp) (c t : ℕ) (f 
   flying = line (turn stamp (Client c)) (Flies t f) ∷ past
 
   flies_grows : Grows osts past flying
-  flies_grows = record { flew = λ w k i. inr i; acted = λ d a. a; lives = λ e. omega arith; closed = omega arith; committed = omega arith; counts = λ b low le d k. k }
+  flies_grows = record { flew = λ w k i. inr i; acted = λ d a. a; lives = λ e. omega arith; closed = omega arith; committed = omega arith; counts = λ b low le d k. k; stays = λ le n e. e }
 
   pub done_flies : Done osts clients flying
   done_flies =
@@ -40,6 +48,7 @@ module _ (osts clients : ℕ) (past : List Line) (stamp : Stamp) (c t : ℕ) (f 
         boots = h.boots;
         numbers = h.numbers;
         bare = h.bare;
+        plain = h.plain;
         high = h.high;
         kept = h.kept;
         slots = h.slots;
@@ -48,6 +57,7 @@ module _ (osts clients : ℕ) (past : List Line) (stamp : Stamp) (c t : ℕ) (f 
         known = h.known;
         answered = h.answered;
         waits = λ r i. let w = h.waits r i in record { was = w.was; asks = asking_more osts past flying flies_grows r w.asks; current = w.current; has = w.has; taken = w.taken; new = w.new };
+        glimpses = λ g i. asking_more osts past flying flies_grows g.request (h.glimpses g i);
         sent = λ from to m s. meant_more osts past flying flies_grows to m (h.sent from to m s);
         once = h.once;
         alone = h.alone;
@@ -64,6 +74,7 @@ done_life osts clients past stamp c new ok h =
       boots = h.boots;
       numbers = h.numbers;
       bare = h.bare;
+      plain = h.plain;
       high = h.high;
       kept = h.kept;
       slots = h.slots;
@@ -72,8 +83,9 @@ done_life osts clients past stamp c new ok h =
       known = h.known;
       answered = h.answered;
       waits = h.waits;
+      glimpses = h.glimpses;
       sent = λ from to m s. meant_more osts past (line (turn stamp (Client c)) (Life new) ∷ past)
-          (record { flew = λ w f i. i; acted = λ d a. a; lives = life_rises past stamp c new ok; closed = omega arith; committed = omega arith; counts = λ b low le d k. k }) to m (h.sent from to m s);
+          (record { flew = λ w f i. i; acted = λ d a. a; lives = life_rises past stamp c new ok; closed = omega arith; committed = omega arith; counts = λ b low le d k. k; stays = λ le n e. e }) to m (h.sent from to m s);
       once = h.once;
       alone = h.alone;
       rises = h.rises;
@@ -117,7 +129,7 @@ module _ (head : Head) (past : List Line) (t c : ℕ) (k : ReplyTo) (ok : ReplyO
         committed = omega (arith, committed);
         own = ⊎_elim
             (λ (b : d.reply.boot ≡ closed_of past). inl (boot ∙ sym closed ∙ sym b))
-            (λ (m : IsMade d × Stands head.osts past d). inr (h.bare d a m.0))
+            (λ (m : IsMade d × Stands head.osts past d). inr m.0)
             counts;
         counts = λ le. counts;
       }
@@ -144,26 +156,64 @@ module _ (head : Head) (past : List Line) (t c : ℕ) (k : ReplyTo) (ok : ReplyO
       (λ (r : Rebuilt past ok.who ok.kept). rebuilt_to r ok.cause)
       (h.kept ok.who ok.tag ok.kept ok.slot)
 
-sent_meant : (head : Head) (past : List Line) (node to : Node) (m : Message) → SendOf head past node to m → Phase head.osts past → Numbers past → Done head.osts head.clients past → Meant head.osts past to m
-sent_meant head past (Client c) (Target t) (message.Request r) ok p n h = asked_meant past head.osts c t r ok p n
-sent_meant head past (Target t) (Client c) (message.Reply k) ok p n h = reply_meant head past t c k ok h
-sent_meant head past (Client c) (Target t) (message.Cancel who boot cookie) ok p n h = tt
-sent_meant head past (Target t) (Client c) (message.Block who boot cookie) ok p n h = tt
-sent_meant head past (Client c) (Target t) (message.Join who boot) ok p n h =
+-- what was seen in the log was done and stands
+pub log_seen : (osts clients : ℕ) (past : List Line) → History osts clients past → (ps : List Part) (n : ℕ) → In n (seen_in ps (server_of osts past).log) → (e : Deed) × Acted past e × IsMade e × (e.reply.txn.0 ≡ n) × (is_lost osts past n ≡ false)
+log_seen osts clients past h ps n i =
+    let e = seen_in_log ps (server_of osts past).log n i in
+    let k = h.log e.0 e.1 in
+    (e.0, k.0, k.1, e.2, subst (λ (m : ℕ). is_lost osts past m ≡ false) e.2 k.2)
+
+-- who is told of a lock that had waited sees what the log has in its range
+gives_meant : (head : Head) (past : List Line) (t c : ℕ) (g : GrantNotice) → GivesOk head.osts past t c g → History head.osts head.clients past → Notifies head.osts past c g
+gives_meant head past t c g ok h =
+    let v = server_of head.osts past in
+    let closed = ok.serves.closed in
+    let parts = range ok.lock.resource (extent_of ok.lock).first (extent_of ok.lock).last in
+    subst (λ (m : GrantNotice). Notifies head.osts past c m) (sym ok.is)
+    (record {
+      to = ok.to;
+      boot = omega arith;
+      committed = omega arith;
+      saw = λ n i. let k = log_seen head.osts head.clients past h parts n i in inr (k.0, k.1, k.2, k.3);
+      fresh = λ le n i. (log_seen head.osts head.clients past h parts n i).4;
+    })
+
+-- who is asked of a lock has asked for it, and the request for which it is asked flew
+asks_meant : (head : Head) (past : List Line) (c : ℕ) (who : Who) (boot : ℕ) (cookie : Cookie) (for_who : Who) (xid : Xid) → AskHolderOk head.osts past c who boot cookie for_who xid → HoldsAt head past
+    → (c ≡ who.client) × ((f : Flight) × Flew past who f) × FlewAs past for_who xid.0
+asks_meant head past c who boot cookie for_who xid ok h =
+    let g = h.locks.granted ok.lock ok.granted in
+    let f = h.done.flew g.0 g.1.0 in
+    let a = h.done.glimpses ok.glimpse ok.waits in (
+      ok.to,
+      (f.0, subst (λ (w : Who). Flew past w f.0) (sym (h.locks.whose g.0 ok.lock g.1) ∙ sym ok.of_life) f.1),
+      (a.0, subst (λ (w : Who). Flew past w a.0) (sym ok.for_life) a.1, ap (λ (r : RequestOf). r.xid.0) (sym a.2) ∙ ap (λ (x : Xid). x.0) (sym ok.for_xid)),
+    )
+
+sent_meant : (head : Head) (past : List Line) (node to : Node) (m : Message) → SendOf head past node to m → HoldsAt head past → Meant head.osts past to m
+sent_meant head past (Client c) (Target t) (message.Request r) ok a = asked_meant past head.osts c t r ok a.phase a.numbers
+sent_meant head past (Target t) (Client c) (message.Reply k) ok a = reply_meant head past t c k ok a.done
+sent_meant head past (Client c) (Target t) (message.Cancel who boot cookie) ok a = tt
+sent_meant head past (Target t) (Client c) (message.Block who boot cookie) ok a = tt
+sent_meant head past (Client c) (Target t) (message.Join who boot) ok a =
     let mine : who.life ≡ (life_of c past).life = ap (λ (w : Who). w.life) ok.of_life in
-    let same : (life_of who.client past).life ≡ (life_of c past).life = ap (λ v. (life_of v past).life) (ap (λ (w : Who). w.client) ok.of_life ∙ p.client c) in
+    let same : (life_of who.client past).life ≡ (life_of c past).life = ap (λ v. (life_of v past).life) (ap (λ (w : Who). w.client) ok.of_life ∙ a.phase.client c) in
     omega arith
-sent_meant head past (Target t) (Client c) (message.Ready who boot committed) ok p n h =
+sent_meant head past (Target t) (Client c) (message.Ready who boot committed) ok a =
     let b = ok.of_boot in
     let closed = ok.serves.closed in
     let is : committed.0 ≡ (server_of head.osts past).committed.0 = ap (λ (x : TxnOf). x.0) ok.of_committed in
     (omega arith, ok.to, omega arith)
-sent_meant head past (Target t) (Client c) (message.Evicted who boot) ok p n h = ok.to
-sent_meant head past (Client c) (Target t) (message.Replay r) ok p n h = tt
-sent_meant head past (Client c) (Target t) (message.Lock r) ok p n h = tt
-sent_meant head past (Client c) (Target t) (message.Word who boot replays locks seen) ok p n h = tt
-sent_meant head past (Target t) (Client c) (message.Up boot) ok p n h = tt
-sent_meant head past node to m ok p n h = absurd ok
+sent_meant head past (Target t) (Client c) (message.Evicted who boot) ok a = ok.to
+sent_meant head past (Client c) (Target t) (message.Replay r) ok a = tt
+sent_meant head past (Client c) (Target t) (message.Lock r) ok a = tt
+sent_meant head past (Client c) (Target t) (message.Word who boot replays locks seen) ok a = tt
+sent_meant head past (Target t) (Client c) (message.Up boot) ok a = tt
+sent_meant head past (Client c) (Target t) (message.Where who boot cookie) ok a = tt
+sent_meant head past (Target t) (Client c) (message.Grant g) ok a = gives_meant head past t c g ok a.history
+sent_meant head past (Target t) (Client c) (message.Ask who boot cookie for_who xid) ok a = asks_meant head past c who boot cookie for_who xid ok a
+sent_meant head past (Client c) (Target t) (message.Size s) ok a = (a.done.sent (Target t) (Client c) (message.Ask s.who ok.boot s.cookie s.for_who s.xid) ok.was).2
+sent_meant head past node to m ok a = absurd ok
 
 -- ---- one more message
 
@@ -208,15 +258,17 @@ module _ (head : Head) (past : List Line) (stamp : Stamp) (node to : Node) (m : 
   known_sent who x i has from t r w q e le =
       h.known who x i has from t r (sent_before head past (turn stamp node) to m ok n from t r (subst (λ (v : Who). Hears past v r.xid.0) (sym q) (subst (λ (v : ℕ). Hears past who v) (sym e) i)) w) q e le
 
-pub done_send : (head : Head) (past : List Line) (stamp : Stamp) (node to : Node) (m : Message) → SendOf head past node to m → Phase head.osts past → Numbers past → Done head.osts head.clients past
-    → Done head.osts head.clients (line (turn stamp node) (Send to m) ∷ past)
-done_send head past stamp (Client c) to m ok p n h =
+pub done_send : (head : Head) (past : List Line) (stamp : Stamp) (node to : Node) (m : Message) → SendOf head past node to m → HoldsAt head past → Done head.osts head.clients (line (turn stamp node) (Send to m) ∷ past)
+done_send head past stamp (Client c) to m ok a =
+    let h = a.done in
+    let n = a.numbers in
     let new : List Line = line (turn stamp (Client c)) (Send to m) ∷ past in
     record {
       flew = h.flew;
       boots = h.boots;
       numbers = h.numbers;
       bare = h.bare;
+      plain = h.plain;
       high = h.high;
       kept = λ who tag k e. kept_more head.osts past new who tag k (λ d a. a) (λ d a q. q) (rebuilt_sent head past (turn stamp (Client c)) to m ok n who k (omega arith)) (h.kept who tag k e);
       slots = h.slots;
@@ -225,19 +277,23 @@ done_send head past stamp (Client c) to m ok p n h =
       known = known_sent head past stamp (Client c) to m ok n h;
       answered = h.answered;
       waits = λ r i. let w = h.waits r i in record { was = (w.was.0, w.was.1, inr w.was.2); asks = w.asks; current = w.current; has = w.has; taken = w.taken; new = w.new };
-      sent = more_sent head past stamp (Client c) to m ok n h (record { flew = λ w f i. i; acted = λ d a. a; lives = λ d. omega arith; closed = omega arith; committed = omega arith; counts = λ b low le d q. q }) (sent_meant head past (Client c) to m ok p n h);
+      glimpses = h.glimpses;
+      sent = more_sent head past stamp (Client c) to m ok n h (record { flew = λ w f i. i; acted = λ d a. a; lives = λ d. omega arith; closed = omega arith; committed = omega arith; counts = λ b low le d q. q; stays = λ le n e. e }) (sent_meant head past (Client c) to m ok a);
       once = h.once;
       alone = h.alone;
       rises = h.rises;
       single = h.single;
     }
-done_send head past stamp (Target t) to m ok p n h =
+done_send head past stamp (Target t) to m ok a =
+    let h = a.done in
+    let n = a.numbers in
     let new : List Line = line (turn stamp (Target t)) (Send to m) ∷ past in
     record {
       flew = h.flew;
       boots = h.boots;
       numbers = h.numbers;
       bare = h.bare;
+      plain = h.plain;
       high = h.high;
       kept = λ who tag k e. kept_more head.osts past new who tag k (λ d a. a) (λ d a q. q) (rebuilt_sent head past (turn stamp (Target t)) to m ok n who k (omega arith)) (h.kept who tag k e);
       slots = h.slots;
@@ -246,7 +302,8 @@ done_send head past stamp (Target t) to m ok p n h =
       known = known_sent head past stamp (Target t) to m ok n h;
       answered = h.answered;
       waits = λ r i. let w = h.waits r i in record { was = (w.was.0, w.was.1, inr w.was.2); asks = w.asks; current = w.current; has = w.has; taken = w.taken; new = w.new };
-      sent = more_sent head past stamp (Target t) to m ok n h (record { flew = λ w f i. i; acted = λ d a. a; lives = λ d. omega arith; closed = omega arith; committed = omega arith; counts = λ b low le d q. q }) (sent_meant head past (Target t) to m ok p n h);
+      glimpses = h.glimpses;
+      sent = more_sent head past stamp (Target t) to m ok n h (record { flew = λ w f i. i; acted = λ d a. a; lives = λ d. omega arith; closed = omega arith; committed = omega arith; counts = λ b low le d q. q; stays = λ le n e. e }) (sent_meant head past (Target t) to m ok a);
       once = h.once;
       alone = h.alone;
       rises = h.rises;
@@ -310,6 +367,7 @@ module _ (head : Head) (past : List Line) (stamp : Stamp) (c t : ℕ) (f : Fligh
         boots = h.boots;
         numbers = h.numbers;
         bare = h.bare;
+        plain = h.plain;
         high = h.high;
         kept = λ who tag j e. kept_more head.osts past hearing who tag j (λ d b. b) (λ d b q. q) (rebuilt_more past hearing who j (λ i. inr i) (λ from u r w q x. w) (omega arith)) (h.kept who tag j e);
         slots = h.slots;
@@ -328,6 +386,7 @@ module _ (head : Head) (past : List Line) (stamp : Stamp) (c t : ℕ) (f : Fligh
             subst (λ (v : ReplyTo). Answer who g v) o.2 (subst (λ (v : Flight). Answer who v k) o.1 (subst (λ (v : Who). Answer v f k) (sym (of_life who o.0)) answer_now)))
             (λ (o : HeardAs past who g r). h.answered who g r o);
         waits = h.waits;
+        glimpses = h.glimpses;
         sent = h.sent;
         once = h.once;
         alone = λ who g r d e i has b is j made stands q x. ⊎_elim

@@ -1,5 +1,5 @@
 -- What a close keeps is exactly what its lives could replay and what saw only that; what it loses is the rest; who leaves is absent, has a newer
--- life that joins, or heard something lost or that saw something lost.
+-- life that joins, or heard or saw something lost.
 use Rattle.std.proofs.Common.{◌≡◌, ℕ, suc, ◌<◌, ◌≤◌, Bool, true, false, List, [], ◌∷◌, Option, Some, None, ◌⊎◌, inl, inr, ⊎_elim, refl, sym, subst, ap, ◌∙◌, arith}
 use Rattle.std.specs.Prelude.{length, not, nat_lt, nat_le, nat_eq, ◌&&◌, ◌||◌, filter, map}
 use Rattle.std.proofs.lemmas.Bool.{eqb-true, eqb-false, ltb-true, lt-ltb, le-ltb, leb-true, and_parts, and_from, or_cases, or_parts, or_left, or_right, not-true, not-false, not_from_false}
@@ -31,7 +31,8 @@ use Rattle.lu_guards.proofs.StoryGuards.{IsRecovering}
 use Rattle.lu_guards.proofs.Lists.{in_filter, in_filtered, life_is, life_self}
 use Rattle.lu_guards.proofs.LifeLists.{life_stands, stands_life, filter_all}
 use Rattle.lu_guards.proofs.ClientLocks.{in_map, in_mapped, any_true, any_passes}
-use Rattle.lu_facts.proofs.Groups.{Acted, HeardAs, HasSlot, IsMade, Stands, ReplayedRise, HoldsAt}
+use Rattle.lu_facts.proofs.Groups.{Acted, HeardAs, SawIn, HasSlot, IsMade, Stands, ReplayedRise, HoldsAt}
+use Rattle.lu_facts.proofs.Keeps.{saw_done}
 use Rattle.lu_facts.proofs.Pigeons.{all_there}
 use Rattle.lu_facts.proofs.ExactLists.{has_in, in_has, has_same, AllStand, none_missed, missed_is, none_misses, NumbersRise, kept_of_one, kept_by_all, rises_distinct}
 
@@ -357,18 +358,17 @@ module _ (head : Head) (past : List Line) (recovers : IsRecovering head.osts pas
 
     -- ---- who leaves
 
-    -- that life heard something lost, or what saw something lost
+    -- that life heard something lost, or saw something lost
     abbrev pub HeardLost : Who → Type 0
-    HeardLost who = (f : Flight) × (r : ReplyTo) × HeardAs past who f r × ((lost r.txn.0 ≡ true) ⊎ ((n : ℕ) × In n r.seen × (lost n ≡ true)))
+    HeardLost who = ((f : Flight) × (r : ReplyTo) × HeardAs past who f r × (lost r.txn.0 ≡ true)) ⊎ ((n : ℕ) × SawIn past who n × (lost n ≡ true))
 
     -- what was seen above the committed number is of an earlier boot
-    seen_below : (who : Who) (f : Flight) (r : ReplyTo) (n : ℕ) → HeardAs past who f r → In n r.seen → committed_then head past < n → n < first_of (server_of head.osts past).boot
-    seen_below who f r n heard i above =
-        let d = h.done.answered who f r heard in
+    seen_below : (who : Who) (n : ℕ) → SawIn past who n → committed_then head past < n → n < first_of (server_of head.osts past).boot
+    seen_below who n saw above =
         ⊎_elim
         (λ (le : n ≤ committed_then head past). absurd (omega arith))
         (λ (e : (e : Deed) × Acted past e × IsMade e × (e.reply.txn.0 ≡ n)). subst (λ (m : ℕ). m < first_of (server_of head.osts past).boot) e.3 (below_boot e.0 e.1 e.2))
-        (h.history.saw d.0 n d.1 (subst (λ (x : ReplyTo). In n x.seen) d.2 i)).0
+        (saw_done head past h who n saw)
 
     pub gap_lost : (who : Who) → IsBack head past who → has_gap (window_of head.osts head.clients past) (kept_then head past) who ≡ true → HeardLost who
     gap_lost who back gap = ⊎_elim of_replay of_word (or_cases (has_lost v.committed (kept_then head past) v.replays who) (word_misses v.committed (kept_then head past) (word_of who v.words)) gap)
@@ -384,11 +384,11 @@ module _ (head : Head) (past : List Line) (recovers : IsRecovering head.osts pas
             let d = replay_done a.0 a.1 in
             let number : a.0.number ≡ d.1.heard.1.txn.0 = ap (λ (x : Replayed). x.number) d.2 ∙ sym (ap (λ (x : ReplyTo). x.txn.0) d.1.heard.3) in
             let who_is : d.0.reply.who ≡ who = ap (λ (x : Replayed). x.who) (sym d.2) ∙ life_is a.0.who who p.0 in
-            let below : a.0.number < first_of (server_of head.osts past).boot = subst (λ (x : Replayed). x.number < first_of (server_of head.osts past).boot) (sym d.2) (below_boot d.0 d.1.acted d.1.made) in (
+            let below : a.0.number < first_of (server_of head.osts past).boot = subst (λ (x : Replayed). x.number < first_of (server_of head.osts past).boot) (sym d.2) (below_boot d.0 d.1.acted d.1.made) in inl (
               d.1.heard.0,
               d.1.heard.1,
               subst (λ (w : Who). HeardAs past w d.1.heard.0 d.1.heard.1) who_is d.1.heard.2,
-              inl (subst (λ (m : ℕ). lost m ≡ true) number (lost_from a.0.number (ltb-true (committed_then head past) a.0.number q.0) below (not-true (has_number a.0.number (kept_then head past)) q.1))),
+              subst (λ (m : ℕ). lost m ≡ true) number (lost_from a.0.number (ltb-true (committed_then head past) a.0.number q.0) below (not-true (has_number a.0.number (kept_then head past)) q.1)),
             )
 
         of_word : word_misses (committed_then head past) (kept_then head past) (word_of who (words_of past)) ≡ true → HeardLost who
@@ -397,14 +397,14 @@ module _ (head : Head) (past : List Line) (recovers : IsRecovering head.osts pas
             let said = h.recovers.words recovers who w.0 w.1 in
             let m = missed_is (committed_then head past) (kept_then head past) w.0.seen (ap (word_misses (committed_then head past) (kept_then head past)) (sym w.1) ∙ t) in
             let k = h.keeps.kept_seen who m.0 (subst (λ (ns : List ℕ). In m.0 ns) said.3.1 m.1) in
-            (k.0, k.1, k.2, inr (m.0, k.3, lost_from m.0 m.2 (seen_below who k.0 k.1 m.0 k.2 k.3 m.2) m.3))
+            inr (m.0, k, lost_from m.0 m.2 (seen_below who m.0 k m.2) m.3)
 
     pub lost_gap : (who : Who) → IsBack head past who → HeardLost who → has_gap (window_of head.osts head.clients past) (kept_then head past) who ≡ true
-    lost_gap who back g = ⊎_elim of_number of_seen g.3
+    lost_gap who back g = ⊎_elim of_number of_seen g
       where
-        of_number : lost g.1.txn.0 ≡ true → has_gap (window_of head.osts head.clients past) (kept_then head past) who ≡ true
-        of_number t =
-            let p = lost_parts g.1.txn.0 t in
+        of_number : ((f : Flight) × (r : ReplyTo) × HeardAs past who f r × (lost r.txn.0 ≡ true)) → has_gap (window_of head.osts head.clients past) (kept_then head past) who ≡ true
+        of_number g =
+            let p = lost_parts g.1.txn.0 g.3 in
             let above = p.0 in
             let low = h.keeps.committed who in
             ⊎_elim
@@ -418,7 +418,7 @@ module _ (head : Head) (past : List Line) (recovers : IsRecovering head.osts pas
             (and_from (nat_lt (committed_then head past) g.1.txn.0) (not (has_number g.1.txn.0 (kept_then head past))) (lt-ltb (committed_then head past) g.1.txn.0 p.0) (not_from_false (has_number g.1.txn.0 (kept_then head past)) p.1))))))
             (h.keeps.replay_kept who g.0 g.1 g.2 (omega arith))
 
-        of_seen : ((n : ℕ) × In n g.1.seen × (lost n ≡ true)) → has_gap (window_of head.osts head.clients past) (kept_then head past) who ≡ true
+        of_seen : ((n : ℕ) × SawIn past who n × (lost n ≡ true)) → has_gap (window_of head.osts head.clients past) (kept_then head past) who ≡ true
         of_seen s =
             let p = lost_parts s.0 s.2 in
             let above = p.0 in
@@ -432,7 +432,7 @@ module _ (head : Head) (past : List Line) (recovers : IsRecovering head.osts pas
             (ap (word_misses (committed_then head past) (kept_then head past)) w.1
             ∙ any_passes (λ (m : ℕ). nat_lt (committed_then head past) m && not (has_number m (kept_then head past))) s.0 w.0.seen (subst (λ (ns : List ℕ). In s.0 ns) (sym said.3.1) k)
             (and_from (nat_lt (committed_then head past) s.0) (not (has_number s.0 (kept_then head past))) (lt-ltb (committed_then head past) s.0 p.0) (not_from_false (has_number s.0 (kept_then head past)) p.1))))
-            (h.keeps.seen_kept who g.0 g.1 s.0 g.2 s.1)
+            (h.keeps.seen_kept who s.0 s.1)
 
     -- who leaves, and why: it had a slot, and isn't back or has a newer life that joins; else it has a gap
     abbrev pub LeavesFor : Who → Cause → Type 0
@@ -468,13 +468,13 @@ module _ (head : Head) (past : List Line) (recovers : IsRecovering head.osts pas
     pub is_gone : (who : Who) (cause : Cause) → HasSlot head.clients past who → LeavesFor who cause → In (record { who = who; cause = cause }) outcome.gone
     is_gone who cause has g = in_gone (window_of head.osts head.clients past) (kept_then head past) (lives_of head.clients past) who cause (stands_life who (lives_of head.clients past) has) (for_leaves who cause g)
 
-    -- who stays is back, none of its client joins, and it heard nothing lost, nor what saw something lost
+    -- who stays is back, none of its client joins, and it heard and saw nothing lost
     pub stays_back : (who : Who) → HasSlot head.clients past who → is_life who (lives_in outcome.gone) ≡ false → IsBack head past who × (is_left (window_of head.osts head.clients past) who ≡ false)
     stays_back who has stays =
         let s = stays_for (window_of head.osts head.clients past) (kept_then head past) (lives_of head.clients past) who (stands_life who (lives_of head.clients past) has) stays in (s.0, s.1)
 
-    pub stays_is : (who : Who) → HasSlot head.clients past who → is_life who (lives_in outcome.gone) ≡ false → (f : Flight) (r : ReplyTo) → HeardAs past who f r → (lost r.txn.0 ≡ false) × ((n : ℕ) → In n r.seen → lost n ≡ false)
-    stays_is who has stays f r heard = (by (lost r.txn.0) refl, λ n i. also n i (lost n) refl)
+    pub stays_is : (who : Who) → HasSlot head.clients past who → is_life who (lives_in outcome.gone) ≡ false → ((f : Flight) (r : ReplyTo) → HeardAs past who f r → lost r.txn.0 ≡ false) × ((n : ℕ) → SawIn past who n → lost n ≡ false)
+    stays_is who has stays = (λ f r heard. by f r heard (lost r.txn.0) refl, λ n saw. also n saw (lost n) refl)
       where
         not_lost : HeardLost who → ⊥
         not_lost g =
@@ -483,10 +483,10 @@ module _ (head : Head) (past : List Line) (recovers : IsRecovering head.osts pas
             let none = p.2 in
             absurd (cc)
 
-        by : (b : Bool) → lost r.txn.0 ≡ b → b ≡ false
-        by false e = refl
-        by true e = absurd (not_lost (f, r, heard, inl e))
+        by : (f : Flight) (r : ReplyTo) → HeardAs past who f r → (b : Bool) → lost r.txn.0 ≡ b → b ≡ false
+        by f r heard false e = refl
+        by f r heard true e = absurd (not_lost (inl (f, r, heard, e)))
 
-        also : (n : ℕ) → In n r.seen → (b : Bool) → lost n ≡ b → b ≡ false
-        also n i false e = refl
-        also n i true e = absurd (not_lost (f, r, heard, inr (n, i, e)))
+        also : (n : ℕ) → SawIn past who n → (b : Bool) → lost n ≡ b → b ≡ false
+        also n saw false e = refl
+        also n saw true e = absurd (not_lost (inr (n, saw, e)))

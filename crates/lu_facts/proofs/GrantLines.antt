@@ -1,7 +1,8 @@
 -- What a line that grants a lock does: at the metadata target nothing that wasn't done before, at another one a deed that makes no transaction.
-use Rattle.std.proofs.Common.{◌≡◌, ℕ, List, Option, Some, None, ◌⊎◌, inl, inr, ⊎_elim, subst, ap, arith}
+use Rattle.std.proofs.Common.{◌≡◌, ℕ, ◌<◌, List, Option, Some, None, ◌⊎◌, inl, inr, ⊎_elim, subst, ap, arith}
 use Rattle.lu_base.specs.declared.ids.At.{At}
-use Rattle.lu_base.specs.declared.ids.Node.TheVariants.{Target}
+use Rattle.lu_base.specs.declared.ids.Node.{Node}
+use Rattle.lu_base.specs.declared.ids.Node.TheVariants.{Client, Target}
 use Rattle.lu_base.specs.declared.ids.Stamp.{Stamp}
 use Rattle.lu_base.specs.declared.ids.Txn.{Txn}
 use Rattle.lu_base.specs.declared.locks.Lock.{Lock}
@@ -9,7 +10,7 @@ use Rattle.lu_words.specs.Carried.{Deed}
 use Rattle.lu_words.specs.Words.{Grant, Line}
 use Rattle.lu_words.specs.Concerns.{only}
 use Rattle.lu_covered.specs.Heads.{Head}
-use Rattle.lu_guards.proofs.StoryGuards.{RangeOk, GrantsOk}
+use Rattle.lu_guards.proofs.StoryGuards.{GrantOk, RangeOk, GrantsOk}
 use Rattle.lu_guards.proofs.Acts.{range_acted}
 use Rattle.lu_guards.proofs.Grown.{Allowed}
 use Rattle.lu_guards.proofs.Lists.{self}
@@ -35,9 +36,18 @@ grant_made osts past at t lock d ok e a made = ⊎_elim
 
 -- the same over all targets
 pub grant_either : (head : Head) (past : List Line) (stamp : Stamp) (t : ℕ) (lock : Lock) (asked : Option Deed) (d : Deed) → Allowed head past (turn stamp (Target t)) (Grant lock asked) → asked ≡ Some d
-    → Acted past d ⊎ RangeOk head.osts (only t past) (turn stamp (Target t)) lock d
+    → Acted past d ⊎ ((0 < t) × RangeOk head.osts (only t past) (turn stamp (Target t)) lock d)
 grant_either head past stamp t lock None d k e = absurd (cc)
 grant_either head past stamp t lock (Some x) d k e = ⊎_elim
-    (λ (a : Acted (only t past) d). inl (acted_whole t past d a))
-    (λ (r : (x ≡ d) × RangeOk head.osts (only t past) (turn stamp (Target t)) lock d). inr r.1)
-    (grant_acted head.osts (only t past) (turn stamp (Target t)) t lock x (k.of t (self t)) d (inl e))
+    (λ (p : (t ≡ 0) × GrantOk head.osts (only t past) lock x). inl (subst (λ (y : Deed). Acted past y) same (acted_whole t past x (did_acted (only t past) x p.1.did))))
+    (λ (p : (0 < t) × RangeOk head.osts (only t past) (turn stamp (Target t)) lock x). inr (p.0, subst (λ (y : Deed). RangeOk head.osts (only t past) (turn stamp (Target t)) lock y) same p.1))
+    (k.of t (self t))
+  where
+    same : x ≡ d
+    same = some_is x d e
+
+pub made_before : (head : Head) (past : List Line) (stamp : Stamp) (node : Node) (lock : Lock) (asked : Option Deed) (d : Deed) → Allowed head past (turn stamp node) (Grant lock asked) → asked ≡ Some d → IsMade d → Acted past d
+made_before head past stamp (Client c) lock asked d k e made = absurd k.ok
+made_before head past stamp (Target t) lock asked d k e made = ⊎_elim (λ (a : Acted past d). a)
+    (λ (p : (0 < t) × RangeOk head.osts (only t past) (turn stamp (Target t)) lock d). absurd (range_unmade head.osts (only t past) (turn stamp (Target t)) lock d p.1 made))
+    (grant_either head past stamp t lock asked d k e)

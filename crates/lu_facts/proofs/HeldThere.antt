@@ -1,5 +1,5 @@
 -- A lock that a client holds stays held, with what is so of it, while none is given up; and one that isn't marked can be used.
-use Rattle.std.proofs.Common.{◌≡◌, ℕ, Bool, true, false, List, [], ◌∷◌, ◌++◌, inl, inr, refl, sym, subst, ap, ◌∙◌}
+use Rattle.std.proofs.Common.{◌≡◌, ℕ, ◌<◌, Bool, true, false, List, [], ◌∷◌, ◌++◌, ◌⊎◌, inl, inr, ⊎_elim, refl, sym, subst, ap, ◌∙◌, arith}
 use Rattle.std.specs.Prelude.{nat_eq, not, ◌==◌, ◌&&◌, ◌||◌, if◌then◌else◌, map, filter}
 use Rattle.std.specs.List.{list_any}
 use Rattle.std.proofs.lemmas.Bool.{cond_both, and_parts, eqb-true, and_from}
@@ -140,6 +140,21 @@ module _ (P : HeldLock → Type 0) (of k : ℕ) where
     brought_there t [] held p = p
     brought_there t (l ∷ locks) held p = brought_there t locks (with_held (held_as t l false) held) (with_there (held_as t l false) held (fresh t l) p)
 
+-- one of another target takes no place of it
+with_other : (P : HeldLock → Type 0) (k : ℕ) (g : HeldLock) (held : List HeldLock) → 0 < g.target.0 → There P 0 k held → There P 0 k (with_held g held)
+with_other P k g held high p =
+    cond_both (is_held (name_of g) held) (map (in_place g) held) (g ∷ held) (λ (v : List HeldLock). There P 0 k v)
+    (λ t. (
+      in_place g p.0,
+      (
+        in_map (in_place g) p.0 held p.1.0,
+        cond_both (is_named (name_of g) p.0) g p.0 (λ (v : HeldLock). IsIt 0 k v × P v)
+            (λ e. let same = eqb-true g.target.0 p.0.target.0 (and_parts (nat_eq g.target.0 p.0.target.0) (nat_eq g.lock.cookie.0 p.0.lock.cookie.0) e).0 in let zero = p.1.1.0.0 in absurd (omega (arith, same, zero, high)))
+            (λ f. p.1.1),
+      ),
+    ))
+    (λ f. (p.0, (inr p.1.0, p.1.1)))
+
 pub with_new : (P : HeldLock → Type 0) (of : ℕ) (g : HeldLock) (held : List HeldLock) → g.target.0 ≡ of → P g → There P of g.lock.cookie.0 (with_held g held)
 with_new P of g held e fine =
     cond_both (is_held (name_of g) held) (map (in_place g) held) (g ∷ held) (λ (v : List HeldLock). There P of g.lock.cookie.0 v)
@@ -154,12 +169,13 @@ brought_new P fresh of t l (k ∷ locks) held z (inl e) =
     (brought_there P of k.cookie.0 fresh t locks (with_held (held_as t k false) held) (with_new P of (held_as t k false) held z (fresh t k)))
 brought_new P fresh of t l (k ∷ locks) held z (inr i) = brought_new P fresh of t l locks (with_held (held_as t k false) held) z i
 
--- ---- what a line makes of them, where no lock is marked or given up, nor a life
+-- ---- what a line makes of them, where no lock is marked or given up, nor a life; one of another target may be marked as it comes
 
 abbrev pub KeepsAll : Entry → Type 0
 KeepsAll (Marks name) = ⊥
 KeepsAll (Drop t l) = ⊥
 KeepsAll (Life who) = ⊥
+KeepsAll (Hold t l marked size seen) = (marked ≡ false) ⊎ (0 < t)
 KeepsAll _ = Unit {0}
 
 -- facts go with locks that are given up, and with a life
@@ -177,23 +193,25 @@ module _ (c : ℕ) (past : List Line) (stamp : Stamp) where
   abbrev H : List HeldLock
   H = held_at c past
 
-  pub clear_stays : (of k : ℕ) (node : Node) (e : Entry) → EntryOk past (turn stamp node) node e → KeepsAll e → There IsClear of k H → There IsClear of k (held_at c (line (turn stamp node) e ∷ past))
-  clear_stays of k (Client d) (Heard t f r) ok stays p =
-      cond_both (nat_eq c d) (with_brought t (brought f.op r) H) H (λ (v : List HeldLock). There IsClear of k v) (λ o. brought_there IsClear of k (λ t l. refl) t (brought f.op r) H p) (λ o. p)
-  clear_stays of k (Client d) (Hold t l marked size seen) ok stays p =
-      cond_both (nat_eq c d) (with_held (held_as t l marked) H) H (λ (v : List HeldLock). There IsClear of k v) (λ o. with_there IsClear of k (held_as t l marked) H ok.unmarked p) (λ o. p)
-  clear_stays of k (Client d) (Pins name) ok stays p = cond_both (nat_eq c d) (changed name lock.Pin H) H (λ (v : List HeldLock). There IsClear of k v) (λ o. changed_there IsClear of k name lock.Pin H (λ h i t w. w) p) (λ o. p)
-  clear_stays of k (Client d) (Unpins name) ok stays p = cond_both (nat_eq c d) (used name (changed name lock.Unpin H)) H (λ (v : List HeldLock). There IsClear of k v)
-      (λ o. used_there IsClear of k name (changed name lock.Unpin H) (changed_there IsClear of k name lock.Unpin H (λ h i t w. w) p)) (λ o. p)
-  clear_stays of k (Client d) (Unmarks t) ok stays p = cond_both (nat_eq c d) (unmarked (record { 0 = t }) H) H (λ (v : List HeldLock). There IsClear of k v) (λ o. unmarked_there IsClear of k t H (λ h w. refl) p) (λ o. p)
-  clear_stays of k node (Drop u l) ok stays p = absurd stays
-  clear_stays of k node (Marks name) ok stays p = absurd stays
-  clear_stays of k (Target t) (Heard u f r) ok stays p = absurd ok
-  clear_stays of k (Target t) (Hold u l marked size seen) ok stays p = absurd ok
-  clear_stays of k (Target t) (Pins name) ok stays p = absurd ok
-  clear_stays of k (Target t) (Unpins name) ok stays p = absurd ok
-  clear_stays of k (Target t) (Unmarks u) ok stays p = absurd ok
-  clear_stays of k _ _ ok stays p = p
+  pub clear_stays : (k : ℕ) (node : Node) (e : Entry) → EntryOk past (turn stamp node) node e → KeepsAll e → There IsClear 0 k H → There IsClear 0 k (held_at c (line (turn stamp node) e ∷ past))
+  clear_stays k (Client d) (Heard t f r) ok stays p =
+      cond_both (nat_eq c d) (with_brought t (brought f.op r) H) H (λ (v : List HeldLock). There IsClear 0 k v) (λ o. brought_there IsClear 0 k (λ t l. refl) t (brought f.op r) H p) (λ o. p)
+  clear_stays k (Client d) (Hold t l marked size seen) ok stays p =
+      cond_both (nat_eq c d) (with_held (held_as t l marked) H) H (λ (v : List HeldLock). There IsClear 0 k v)
+      (λ o. ⊎_elim (λ (clear : marked ≡ false). with_there IsClear 0 k (held_as t l marked) H clear p) (λ (high : 0 < t). with_other IsClear k (held_as t l marked) H high p) stays)
+      (λ o. p)
+  clear_stays k (Client d) (Pins name) ok stays p = cond_both (nat_eq c d) (changed name lock.Pin H) H (λ (v : List HeldLock). There IsClear 0 k v) (λ o. changed_there IsClear 0 k name lock.Pin H (λ h i t w. w) p) (λ o. p)
+  clear_stays k (Client d) (Unpins name) ok stays p = cond_both (nat_eq c d) (used name (changed name lock.Unpin H)) H (λ (v : List HeldLock). There IsClear 0 k v)
+      (λ o. used_there IsClear 0 k name (changed name lock.Unpin H) (changed_there IsClear 0 k name lock.Unpin H (λ h i t w. w) p)) (λ o. p)
+  clear_stays k (Client d) (Unmarks t) ok stays p = cond_both (nat_eq c d) (unmarked (record { 0 = t }) H) H (λ (v : List HeldLock). There IsClear 0 k v) (λ o. unmarked_there IsClear 0 k t H (λ h w. refl) p) (λ o. p)
+  clear_stays k node (Drop u l) ok stays p = absurd stays
+  clear_stays k node (Marks name) ok stays p = absurd stays
+  clear_stays k (Target t) (Heard u f r) ok stays p = absurd ok
+  clear_stays k (Target t) (Hold u l marked size seen) ok stays p = absurd ok
+  clear_stays k (Target t) (Pins name) ok stays p = absurd ok
+  clear_stays k (Target t) (Unpins name) ok stays p = absurd ok
+  clear_stays k (Target t) (Unmarks u) ok stays p = absurd ok
+  clear_stays k _ _ ok stays p = p
 
   pub facts_stay : (x : Fact) (node : Node) (e : Entry) → EntryOk past (turn stamp node) node e → KeepsFacts e → In x (facts_at c past) → In x (facts_at c (line (turn stamp node) e ∷ past))
   facts_stay x (Client d) (Learns t o a locks) ok stays i =

@@ -8,7 +8,6 @@ use Rattle.lu_base.specs.declared.ids.Node.TheVariants.{Target}
 use Rattle.lu_base.specs.declared.ids.Stamp.{Stamp}
 use Rattle.lu_base.specs.declared.ids.Who.{Who}
 use Rattle.lu_msg.specs.declared.commits.Transaction.{Transaction}
-use Rattle.lu_msg.specs.declared.messages.Reply.{Reply as ReplyTo}
 use Rattle.lu_part.specs.declared.parts.Part.{Part}
 use Rattle.lu_machine.specs.Tree.{Tree}
 use Rattle.lu_machine.specs.Footprint.{Operation, empty, touches, Same}
@@ -33,12 +32,13 @@ use Rattle.lu_guards.proofs.Guards.{In}
 use Rattle.lu_guards.proofs.StoryGuards.{IsRecovering, CloseOk}
 use Rattle.lu_guards.proofs.Lists.{in_filter, in_filtered}
 use Rattle.lu_guards.proofs.LifeLists.{stands_life, life_stands, any_lives, filter_all}
-use Rattle.lu_facts.proofs.Groups.{turn, Acted, HeardAs, HasSlot, IsMade, ItemOk, AllItems, forgetting, items_of, History, HoldsAt}
+use Rattle.lu_facts.proofs.Groups.{turn, Flew, Acted, HasSlot, IsMade, ItemOk, AllItems, forgetting, items_of, History, HoldsAt}
 use Rattle.lu_guards.proofs.ClientLocks.{in_mapped, in_map}
 use Rattle.lu_facts.proofs.ExactLists.{has_in, Below, NumbersRise, rise_among, kept_of_one}
 use Rattle.lu_facts.proofs.Exact.{kept_then, replay_by, Stood, again_numbers, below_boot, replay_done, one_deed, numbers_rise, kept_made, low_stays, kept_stays, all_stay, lost_is, stays_is}
 use Rattle.lu_facts.proofs.ItemLists.{same_forgotten, same_forgetting, picked_in, in_picked, in_forgetting, fall_picked, fall_forgetting, pick_same, pick_under, pick_forgetting, every_of, alike_picked, seen_picked, all_ops, all_done_tree, deed_operations, fresh_ops, in_fresh, fresh_in, OpsRise, fresh_rise, rise_same, upto, le_upto, done_over, last_of, RiseFrom, last_top, last_is, last_number_is, deed_numbers}
 use Rattle.lu_facts.proofs.HistoryLines.{item_deed}
+use Rattle.lu_facts.proofs.Keeps.{heard_flew, saw_flew, heard_saw}
 
 -- ---- the kept replays, done again
 
@@ -293,7 +293,7 @@ module _ (head : Head) (past : List Line) (stamp : Stamp) (t : ℕ) (recovers : 
             made = g.0.made;
             stands = or_from (is_lost head.osts past d.reply.txn.0) (loss d.reply.txn.0) g.0.stands stays;
             operates = g.0.operates;
-            wrote = g.0.wrote ∙ same.writes;
+            wrote = λ names. g.0.wrote names ∙ same.writes;
             saw = λ n i.
                 let j = seen_picked head.osts keeps refl is (touches head.osts (contents head.osts empty is) a) n all.1 (subst (λ (ps : List Part). In n (seen head.osts (contents head.osts empty) (pick keeps is) ps)) (sym same.touches) i) in
                 let low = close_low in
@@ -325,23 +325,21 @@ module _ (head : Head) (past : List Line) (stamp : Stamp) (t : ℕ) (recovers : 
       inr (subst (λ (ws : List Who). is_life who ws ≡ true) of_lives (life_stands who before.lives f.0), not-true (is_life who gone) f.1))
       (or_cases (is_life who made.joins) (is_life who (without_lives gone before.lives)) (sym (any_lives (same_life who) made.joins (without_lives gone before.lives)) ∙ has))
 
-  -- a life that joins has heard nothing
-  joins_none : (who : Who) → is_life who made.joins ≡ true → (f : Flight) (r : ReplyTo) → HeardAs past who f r → ⊥
-  joins_none who j f r i =
+  -- a life that joins has asked nothing
+  joins_none : (who : Who) → is_life who made.joins ≡ true → (f : Flight) × Flew past who f → ⊥
+  joins_none who j f =
       let w = h.recovers.wishes recovers who (stands_life who (wishes_of past) j) in
-      let d = h.done.answered who f r i in
-      let same : d.0.reply.who ≡ who = ap (λ (x : ReplyTo). x.who) (sym d.2) ∙ d.3 in
       ⊎_elim
-      (λ (has : is_life d.0.reply.who (lives_of head.clients past) ≡ true).
-      let e : who ≡ w.0 = h.lives.one who w.0 (subst (λ (x : Who). is_life x (lives_of head.clients past) ≡ true) same has) w.1 (sym w.2) in
+      (λ (has : is_life who (lives_of head.clients past) ≡ true).
+      let e : who ≡ w.0 = h.lives.one who w.0 has w.1 (sym w.2) in
       let l : who.life ≡ w.0.life = ap (λ (x : Who). x.life) e in
       let lt = w.3 in
       omega arith)
-      (λ (out : is_life d.0.reply.who (evicted_of past) ≡ true).
-      let lt = h.lives.apart w.0 who w.1 (subst (λ (x : Who). is_life x (evicted_of past) ≡ true) same out) w.2 in
+      (λ (out : is_life who (evicted_of past) ≡ true).
+      let lt = h.lives.apart w.0 who w.1 out w.2 in
       let newer = w.3 in
       omega arith)
-      (h.lives.acted d.0 d.1)
+      (h.lives.flew who f.0 f.1)
 
   earlier : closed_of past < (server_of head.osts past).boot
   earlier = let ne = eqb-false (closed_of past) (server_of head.osts past).boot recovers in let le = h.phase.under in omega arith
@@ -377,11 +375,16 @@ module _ (head : Head) (past : List Line) (stamp : Stamp) (t : ℕ) (recovers : 
             let p = or_parts (is_lost head.osts past d.reply.txn.0) (loss d.reply.txn.0) s in
             or_from (is_lost head.osts past n) (loss n) (g.stands d a m p.0 n i) (stays_saw d a m p.1 n i);
         heard = λ who f r i has. ⊎_elim
-            (λ (j : is_life who made.joins ≡ true). absurd (joins_none who j f r i))
+            (λ (j : is_life who made.joins ≡ true). absurd (joins_none who j (heard_flew head.osts head.clients past h.done who f r i)))
             (λ (s : HasSlot head.clients past who × (is_life who gone ≡ false)).
             let old = g.heard who f r i s.0 in
-            let now = stays_is head past recovers h (turn stamp (Target t)) who s.0 s.1 f r i in
-            (or_from (is_lost head.osts past r.txn.0) (loss r.txn.0) old.0 now.0, λ n j. or_from (is_lost head.osts past n) (loss n) (old.1 n j) (now.1 n j)))
+            let now = stays_is head past recovers h (turn stamp (Target t)) who s.0 s.1 in
+            (or_from (is_lost head.osts past r.txn.0) (loss r.txn.0) old.0 (now.0 f r i), λ n j. or_from (is_lost head.osts past n) (loss n) (old.1 n j) (now.1 n (heard_saw past who f r n i j))))
+            (slot_then who has);
+        held = λ who n i has. ⊎_elim
+            (λ (j : is_life who made.joins ≡ true). absurd (joins_none who j (saw_flew head.osts head.clients past h.done h.keeps who n i)))
+            (λ (s : HasSlot head.clients past who × (is_life who gone ≡ false)).
+            or_from (is_lost head.osts past n) (loss n) (g.held who n i s.0) ((stays_is head past recovers h (turn stamp (Target t)) who s.0 s.1).1 n i))
             (slot_then who has);
         fresh = λ d a b n i. let le = (h.done.boots d a).1 in let lt = earlier in absurd (omega arith);
         items = close_items;

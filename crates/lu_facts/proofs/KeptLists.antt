@@ -98,24 +98,24 @@ filter_rises f [] o = tt
 filter_rises f (q ∷ qs) o =
     cond_both (f q) (q ∷ filter f qs) (filter f qs) ReplaysRise (λ t. ((λ j i. o.0 j (in_filter f j qs i).0), filter_rises f qs o.1)) (λ t. filter_rises f qs o.1)
 
--- ---- what a life keeps, of the replies that it heard, where all up to a number is committed
+-- ---- what a life keeps, of the replies that it heard and the numbers that it saw, where all up to a number is committed
 
-pub record KeepsFor (most : ℕ) (heard : Flight → ReplyTo → Type 0) (k : Kept) : Type 0 where
+pub record KeepsFor (most : ℕ) (heard : Flight → ReplyTo → Type 0) (saw : ℕ → Type 0) (k : Kept) : Type 0 where
   pub committed : k.committed ≤ most
   pub replay_kept : (f : Flight) (r : ReplyTo) → heard f r → 0 < r.txn.0 → (r.txn.0 ≤ k.committed) ⊎ In (replay_of f r) k.replays
   pub kept_replay : (q : Replay) → In q k.replays → (f : Flight) × (r : ReplyTo) × heard f r × (q ≡ replay_of f r) × (0 < r.txn.0)
-  pub seen_kept : (f : Flight) (r : ReplyTo) (n : ℕ) → heard f r → In n r.seen → (n ≤ k.committed) ⊎ In n k.seen
-  pub kept_seen : (n : ℕ) → In n k.seen → (f : Flight) × (r : ReplyTo) × heard f r × In n r.seen
+  pub seen_kept : (n : ℕ) → saw n → (n ≤ k.committed) ⊎ In n k.seen
+  pub kept_seen : (n : ℕ) → In n k.seen → saw n
   pub rises : ReplaysRise k.replays
 
 -- all up to a number is committed
-pub for_settled : (most : ℕ) (heard : Flight → ReplyTo → Type 0) (n : ℕ) (k : Kept) → n ≤ most → KeepsFor most heard k → KeepsFor most heard (settled n k)
-for_settled most heard n k le h =
+pub for_settled : (most : ℕ) (heard : Flight → ReplyTo → Type 0) (saw : ℕ → Type 0) (n : ℕ) (k : Kept) → n ≤ most → KeepsFor most heard saw k → KeepsFor most heard saw (settled n k)
+for_settled most heard saw n k le h =
     record {
       committed = let low = h.committed in omega arith;
       replay_kept = λ f r i lt. ⊎_elim (λ (l : r.txn.0 ≤ k.committed). inl (omega arith)) (λ (j : In (replay_of f r) k.replays). over r.txn.0 (In (replay_of f r) _) (λ t. in_filtered (λ (q : Replay). nat_lt (max n k.committed) q.txn.0) (replay_of f r) k.replays j t)) (h.replay_kept f r i lt);
       kept_replay = λ q i. h.kept_replay q (in_filter (λ (p : Replay). nat_lt (max n k.committed) p.txn.0) q k.replays i).0;
-      seen_kept = λ f r m i j. ⊎_elim (λ (l : m ≤ k.committed). inl (omega arith)) (λ (o : In m k.seen). over m (In m _) (λ t. in_filtered (nat_lt (max n k.committed)) m k.seen o t)) (h.seen_kept f r m i j);
+      seen_kept = λ m i. ⊎_elim (λ (l : m ≤ k.committed). inl (omega arith)) (λ (o : In m k.seen). over m (In m _) (λ t. in_filtered (nat_lt (max n k.committed)) m k.seen o t)) (h.seen_kept m i);
       kept_seen = λ m i. h.kept_seen m (in_filter (nat_lt (max n k.committed)) m k.seen i).0;
       rises = filter_rises (λ (q : Replay). nat_lt (max n k.committed) q.txn.0) k.replays h.rises;
     }
@@ -127,10 +127,27 @@ for_settled most heard n k le h =
         by true e = inr (f e)
         by false e = inl (ltb-false (max n k.committed) x e)
 
+-- numbers are seen, beside those that were
+pub record Beside (seen : List ℕ) (saw more : ℕ → Type 0) : Type 0 where
+  pub now : (n : ℕ) → In n seen → more n
+  pub into : (n : ℕ) → saw n → more n
+  pub out : (n : ℕ) → more n → In n seen ⊎ saw n
+
+seen_beside : (most : ℕ) (heard : Flight → ReplyTo → Type 0) (saw more : ℕ → Type 0) (seen : List ℕ) (k : Kept) → Beside seen saw more → KeepsFor most heard saw k → (n : ℕ) → more n → (n ≤ k.committed) ⊎ In n (with_numbers seen k.seen)
+seen_beside most heard saw more seen k b h n i = by (b.out n i)
+  where
+    by : In n seen ⊎ saw n → (n ≤ k.committed) ⊎ In n (with_numbers seen k.seen)
+    by (inl j) = inr (numbers_new seen n k.seen j)
+    by (inr o) = ⊎_elim (λ (l : n ≤ k.committed). inl l) (λ (p : In n k.seen). inr (numbers_old seen n k.seen p)) (h.seen_kept n o)
+
+beside_seen : (most : ℕ) (heard : Flight → ReplyTo → Type 0) (saw more : ℕ → Type 0) (seen : List ℕ) (k : Kept) → Beside seen saw more → KeepsFor most heard saw k → (n : ℕ) → In n (with_numbers seen k.seen) → more n
+beside_seen most heard saw more seen k b h n i = ⊎_elim (λ (j : In n seen). b.now n j) (λ (j : In n k.seen). b.into n (h.kept_seen n j)) (numbers_in seen n k.seen i)
+
 -- one more reply is heard; two of one number are to the same
-pub for_reply : (most : ℕ) (heard more : Flight → ReplyTo → Type 0) (f : Flight) (r : ReplyTo) (k : Kept) → more f r → ((g : Flight) (s : ReplyTo) → heard g s → more g s) → ((g : Flight) (s : ReplyTo) → more g s → ((f ≡ g) × (r ≡ s)) ⊎ heard g s)
-    → ((g : Flight) (s : ReplyTo) → heard g s → 0 < s.txn.0 → s.txn.0 ≡ r.txn.0 → replay_of g s ≡ replay_of f r) → KeepsFor most heard k → KeepsFor most more (record k { seen = with_numbers r.seen k.seen; replays = with_reply f r k.replays })
-for_reply most heard more f r k now into out same h =
+pub for_reply : (most : ℕ) (heard more : Flight → ReplyTo → Type 0) (saw sees : ℕ → Type 0) (f : Flight) (r : ReplyTo) (k : Kept) → more f r → ((g : Flight) (s : ReplyTo) → heard g s → more g s) → ((g : Flight) (s : ReplyTo) → more g s → ((f ≡ g) × (r ≡ s)) ⊎ heard g s)
+    → Beside r.seen saw sees → ((g : Flight) (s : ReplyTo) → heard g s → 0 < s.txn.0 → s.txn.0 ≡ r.txn.0 → replay_of g s ≡ replay_of f r) → KeepsFor most heard saw k
+    → KeepsFor most more sees (record k { seen = with_numbers r.seen k.seen; replays = with_reply f r k.replays })
+for_reply most heard more saw sees f r k now into out beside same h =
     record {
       committed = h.committed;
       replay_kept = λ g s i lt. ⊎_elim
@@ -138,11 +155,8 @@ for_reply most heard more f r k now into out same h =
           (λ (o : heard g s). ⊎_elim (λ (l : s.txn.0 ≤ k.committed). inl l) (λ (j : In (replay_of g s) k.replays). inr (stays g s (same g s o lt) j)) (h.replay_kept g s o lt))
           (out g s i);
       kept_replay = λ q i. from q i;
-      seen_kept = λ g s n i j. ⊎_elim
-          (λ (e : (f ≡ g) × (r ≡ s)). inr (numbers_new r.seen n k.seen (subst (λ (v : ReplyTo). In n v.seen) (sym e.1) j)))
-          (λ (o : heard g s). ⊎_elim (λ (l : n ≤ k.committed). inl l) (λ (p : In n k.seen). inr (numbers_old r.seen n k.seen p)) (h.seen_kept g s n o j))
-          (out g s i);
-      kept_seen = λ n i. ⊎_elim (λ (j : In n r.seen). (f, r, now, j)) (λ (j : In n k.seen). let q = h.kept_seen n j in (q.0, q.1, into q.0 q.1 q.2, q.3)) (numbers_in r.seen n k.seen i);
+      seen_kept = seen_beside most heard saw sees r.seen k beside h;
+      kept_seen = beside_seen most heard saw sees r.seen k beside h;
       rises = cond_both (nat_eq r.txn.0 0) k.replays (with_replay (replay_of f r) k.replays) ReplaysRise (λ t. h.rises) (λ t. replay_rises (replay_of f r) k.replays h.rises);
     }
   where
@@ -162,38 +176,39 @@ for_reply most heard more f r k now into out same h =
         (λ t j. ⊎_elim (λ (e : replay_of f r ≡ q). (f, r, now, sym e, let ne = eqb-false r.txn.0 0 t in omega (arith, ne))) (λ (o : In q k.replays). old q o) (in_with_replay (replay_of f r) q k.replays j))
         i
 
--- what one saw is shown again
-pub for_shown : (most : ℕ) (heard : Flight → ReplyTo → Type 0) (f : Flight) (r : ReplyTo) (seen : List ℕ) (k : Kept) → heard f r → seen ≡ r.seen → KeepsFor most heard k → KeepsFor most heard (record k { seen = with_numbers seen k.seen })
-for_shown most heard f r seen k now e h =
+-- what is seen with a lock
+pub for_shown : (most : ℕ) (heard : Flight → ReplyTo → Type 0) (saw sees : ℕ → Type 0) (seen : List ℕ) (k : Kept) → Beside seen saw sees → KeepsFor most heard saw k → KeepsFor most heard sees (record k { seen = with_numbers seen k.seen })
+for_shown most heard saw sees seen k beside h =
     record {
       committed = h.committed;
       replay_kept = h.replay_kept;
       kept_replay = h.kept_replay;
-      seen_kept = λ g s n i j. ⊎_elim (λ (l : n ≤ k.committed). inl l) (λ (p : In n k.seen). inr (numbers_old seen n k.seen p)) (h.seen_kept g s n i j);
-      kept_seen = λ n i. ⊎_elim (λ (j : In n seen). (f, r, now, subst (λ (ns : List ℕ). In n ns) e j)) (λ (j : In n k.seen). h.kept_seen n j) (numbers_in seen n k.seen i);
+      seen_kept = seen_beside most heard saw sees seen k beside h;
+      kept_seen = beside_seen most heard saw sees seen k beside h;
       rises = h.rises;
     }
 
--- the same replies, and more is committed
-pub for_more : (most greater : ℕ) (heard more : Flight → ReplyTo → Type 0) (k : Kept) → most ≤ greater → ((g : Flight) (s : ReplyTo) → heard g s → more g s) → ((g : Flight) (s : ReplyTo) → more g s → heard g s) → KeepsFor most heard k → KeepsFor greater more k
-for_more most greater heard more k le into out h =
+-- the same replies and numbers, and more is committed
+pub for_more : (most greater : ℕ) (heard more : Flight → ReplyTo → Type 0) (saw sees : ℕ → Type 0) (k : Kept) → most ≤ greater → ((g : Flight) (s : ReplyTo) → heard g s → more g s) → ((g : Flight) (s : ReplyTo) → more g s → heard g s)
+    → ((n : ℕ) → saw n → sees n) → ((n : ℕ) → sees n → saw n) → KeepsFor most heard saw k → KeepsFor greater more sees k
+for_more most greater heard more saw sees k le into out shows hides h =
     record {
       committed = let low = h.committed in omega arith;
       replay_kept = λ f r i lt. h.replay_kept f r (out f r i) lt;
       kept_replay = λ q i. let p = h.kept_replay q i in (p.0, p.1, into p.0 p.1 p.2, p.3, p.4);
-      seen_kept = λ f r n i j. h.seen_kept f r n (out f r i) j;
-      kept_seen = λ n i. let p = h.kept_seen n i in (p.0, p.1, into p.0 p.1 p.2, p.3);
+      seen_kept = λ n i. h.seen_kept n (hides n i);
+      kept_seen = λ n i. shows n (h.kept_seen n i);
       rises = h.rises;
     }
 
--- a life that heard nothing keeps a number
-pub for_nothing : (most : ℕ) (heard : Flight → ReplyTo → Type 0) (n : ℕ) → n ≤ most → ((g : Flight) (s : ReplyTo) → heard g s → ⊥) → KeepsFor most heard (record { committed = n; seen = []; replays = [] })
-for_nothing most heard n le none =
+-- a life that heard and saw nothing keeps a number
+pub for_nothing : (most : ℕ) (heard : Flight → ReplyTo → Type 0) (saw : ℕ → Type 0) (n : ℕ) → n ≤ most → ((g : Flight) (s : ReplyTo) → heard g s → ⊥) → ((m : ℕ) → saw m → ⊥) → KeepsFor most heard saw (record { committed = n; seen = []; replays = [] })
+for_nothing most heard saw n le none blind =
     record {
       committed = le;
       replay_kept = λ f r i lt. absurd (none f r i);
       kept_replay = λ q i. absurd i;
-      seen_kept = λ f r m i j. absurd (none f r i);
+      seen_kept = λ m i. absurd (blind m i);
       kept_seen = λ m i. absurd i;
       rises = tt;
     }

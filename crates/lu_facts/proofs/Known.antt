@@ -39,21 +39,26 @@ use Rattle.lu_guards.proofs.Lists.{self, in_append, in_filter}
 use Rattle.lu_guards.proofs.Only.{grown_of}
 use Rattle.lu_guards.proofs.Parts.{tree_is, committed_is, life_is_of}
 use Rattle.lu_guards.proofs.ClientLocks.{any_true}
-use Rattle.lu_facts.proofs.Groups.{turn, Acted, IsMade, Stands, Dead, Evicted, Lapsed, HoldsAt}
+use Rattle.lu_facts.proofs.Groups.{turn, Acted, IsMade, Stands, Dead, Evicted, Lapsed, IsOver, HoldsAt}
 use Rattle.lu_facts.proofs.Brings.{of_reply}
 use Rattle.lu_facts.proofs.Lines.{acted_more}
-use Rattle.lu_facts.proofs.All.{holds_at}
+use Rattle.lu_facts.proofs.All.{holds_at, holds}
 use Rattle.lu_facts.proofs.KnownPaths.{Tells, Usable, Right, known_is_right}
 use Rattle.lu_facts.proofs.PartsStay.{sound_now}
-use Rattle.lu_facts.proofs.Unheld.{answers, done_op, Unheld, held_heard}
+use Rattle.lu_facts.proofs.FirstDeeds.{first_line}
+use Rattle.lu_facts.proofs.Unheld.{answers, done_op, held_heard}
 use Rattle.lu_facts.proofs.Taught.{bound_of, tree_for, Under, Taught, tells_for, first_taught}
 use Rattle.lu_facts.proofs.TaughtClose.{keeps_taught}
 
--- ---- at one target
+-- ---- at the metadata target
 
-pub taught_at : (head : Head) (past : List Line) → GrownOf head past → Taught head.osts past
+pub taught_at : (head : Head) (past : List Line) → Grown head past → Taught head.osts (only 0 past)
 taught_at head [] g = first_taught head.osts
-taught_at head (l ∷ past) g = keeps_taught head past l.at.stamp l.at.node l.entry g.0 (holds_at head past g.3) (holds_at head (l ∷ past) g) (held_heard head past g.3 (holds_at head)) (taught_at head past g.3)
+taught_at head (l ∷ past) g =
+    cond_both (concerns 0 l.at.node l.entry) (l ∷ only 0 past) (only 0 past) (λ (p : List Line). HoldsAt head p → Taught head.osts p)
+    (λ o next. keeps_taught head (only 0 past) l.at.stamp l.at.node l.entry (first_line head past l.at.stamp l.at.node l.entry g.1 g.0 o) (g.0.of 0 o) ((holds head past g.1).at 0) next (held_heard head past g.1) (taught_at head past g.1))
+    (λ o next. taught_at head past g.1)
+    ((holds head (l ∷ past) g).at 0)
 
 pub client_is : (a b : ℕ) → Client a ≡ Client b → a ≡ b
 client_is a b e = cc
@@ -100,18 +105,6 @@ heard_by_more l past c f r i = by l.entry
 -- in the story of a target
 pub heard_by_story : (t : ℕ) (l : Line) (past : List Line) (c : ℕ) (f : Flight) (r : ReplyTo) → HeardBy (only t past) c f r → HeardBy (only t (l ∷ past)) c f r
 heard_by_story t l past c f r i = cond_both (concerns t l.at.node l.entry) (l ∷ only t past) (only t past) (λ (p : List Line). HeardBy p c f r) (λ _. heard_by_more l (only t past) c f r i) (λ _. i)
-
-pub heard_by_whole : (t : ℕ) (past : List Line) (c : ℕ) (f : Flight) (r : ReplyTo) → HeardBy (only t past) c f r → HeardBy past c f r
-heard_by_whole t [] c f r i = i
-heard_by_whole t (l ∷ past) c f r i =
-    cond_both (concerns t l.at.node l.entry) (l ∷ only t past) (only t past) (λ (p : List Line). HeardBy p c f r → HeardBy (l ∷ past) c f r)
-    (λ _ j. by l.entry j (λ k. heard_by_whole t past c f r k))
-    (λ _ j. heard_by_more l past c f r (heard_by_whole t past c f r j))
-    i
-  where
-    by : (e : Entry) → HeardBy (line l.at e ∷ only t past) c f r → (HeardBy (only t past) c f r → HeardBy past c f r) → HeardBy (line l.at e ∷ past) c f r
-    by (Heard u g k) j h = ⊎_elim (λ (e : (l.at.node ≡ Client c) × (g ≡ f) × (k ≡ r)). inl e) (λ (k : HeardBy (only t past) c f r). inr (h k)) j
-    by _ j h = h j
 
 -- a reply that was just heard
 pub now_heard : (past : List Line) (at : At) (t c : ℕ) (f : Flight) (r : ReplyTo) → HeardNow past at t f r → at.node ≡ Client c → HeardBy (only t past) c f r
@@ -184,7 +177,7 @@ Standing head past c f =
       whose : deed.reply.who ≡ life_at c past;
       under : Under head.osts (only 0 past) deed f;
       granted : In under.lock (server_of head.osts (only 0 past)).granted ⊎ Evicted (only 0 past) (life_at c past);
-      fresh : Unheld (only 0 past) deed under.lock → ⊥;
+      fresh : IsOver (only 0 past) deed under.lock → ⊥;
       tells : Tells (tree_for head.osts (life_at c past) (only 0 past)) (bound_of head.osts (only 0 past)) f;
     }
 
@@ -200,12 +193,12 @@ held_stands head past c f g known h held names same_cookie =
     let s = facts_heard head past c f g known in
     let k = heard_answered head (only 0 past) c s.flight s.reply story s.heard in
     let d = k.0 in
-    let under = taught_at head (only 0 past) story d f (k.1.acted, fact_of (only 0 past) c s.flight s.reply d f k.1 s.fact) in
+    let under = taught_at head past g d f (k.1.acted, fact_of (only 0 past) c s.flight s.reply d f k.1 s.fact) in
     let at = holds_at head (only 0 past) story in
     let locks = at.locks in
     let in_story : In h (held_at c (only 0 past)) = held_into c 0 past h names held in
     let holding = locks.held c h in_story in
-    let same = locks.once d holding.deed under.lock h.lock (k.1.acted, of_reply d.op d.reply under.lock under.among) holding.gave (under.cookie ∙ sym same_cookie) in
+    let same = locks.once d holding.deed under.lock h.lock (k.1.acted, inl (of_reply d.op d.reply under.lock under.among)) holding.gave (under.cookie ∙ sym same_cookie) in
     let life : life_of c (only 0 past) ≡ life_at c past = sym (life_is_of c 0 past) in
     let whose : d.reply.who ≡ life_at c past = ap (λ (v : Deed). v.reply.who) same.0 ∙ holding.who ∙ life in
     let client : d.reply.who.client ≡ c = ap (λ (v : Deed). v.reply.who.client) same.0 ∙ ap (λ (v : Who). v.client) holding.who ∙ at.phase.client c in
@@ -224,7 +217,7 @@ held_stands head past c f g known h held names same_cookie =
           (tells_for head (only 0 past) at d f under k.1.acted (held_now d under.lock c h client in_story (ap (λ (v : Lock). v.cookie) (sym same.1))));
     }
   where
-    held_now : (d : Deed) (l : Lock) (b : ℕ) (k : HeldLock) → d.reply.who.client ≡ b → In k (held_at b (only 0 past)) → k.lock.cookie ≡ l.cookie → Unheld (only 0 past) d l → ⊥
+    held_now : (d : Deed) (l : Lock) (b : ℕ) (k : HeldLock) → d.reply.who.client ≡ b → In k (held_at b (only 0 past)) → k.lock.cookie ≡ l.cookie → IsOver (only 0 past) d l → ⊥
     held_now d l b k client i e x =
         ⊎_elim (λ (y : Dead (only 0 past) d l). y.1) (λ (y : Lapsed (only 0 past) d l). y.1) x k (subst (λ (v : ℕ). In k (held_at v (only 0 past))) (sym client) i) (ap (λ (v : Cookie). v.0) e)
 
@@ -238,9 +231,9 @@ pub still_granted : (head : Head) (past : List Line) (c : ℕ) (f : Fact) → (E
 still_granted head past c f present s =
     ⊎_elim (λ (i : In s.under.lock (server_of head.osts (only 0 past)).granted). i) (λ (i : Evicted (only 0 past) (life_at c past)). absurd (present i)) s.granted
 
--- a number that was seen in a reply that the present life heard
+-- a number that was seen in a reply of the metadata target that the present life heard
 abbrev pub SawBy : List Line → ℕ → ℕ → Type 0
-SawBy past c n = record { flight : Flight; reply : ReplyTo; heard : HeardBy past c flight reply; of : reply.who ≡ life_at c past; seen : In n reply.seen }
+SawBy past c n = record { flight : Flight; reply : ReplyTo; heard : HeardBy (only 0 past) c flight reply; of : reply.who ≡ life_at c past; seen : In n reply.seen }
 
 -- a fact is true of the tree, and each transaction that stands and wrote what it is on is committed, or was seen
 pub stands_tells : (head : Head) (past : List Line) (c : ℕ) (f : Fact) → (Evicted (only 0 past) (life_at c past) → ⊥) → Standing head past c f → Tells (server_of head.osts (only 0 past)).tree (bound_of head.osts (only 0 past)) f
@@ -259,7 +252,7 @@ stands_saw head past c f present s p is e b made stands =
         inr (inr (record {
           flight = s.source.flight;
           reply = s.source.reply;
-          heard = heard_by_whole 0 past c s.source.flight s.source.reply s.source.heard;
+          heard = s.source.heard;
           of = sym s.answered.who ∙ s.whose;
           seen = subst (λ (ns : List ℕ). In e.reply.txn.0 ns) (ap (λ (v : ReplyTo). v.seen) s.answered.is) j;
         }))

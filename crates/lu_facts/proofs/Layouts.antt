@@ -1,14 +1,12 @@
 -- Where files lie: each stripe of a file on one of the run's object storage targets. So it is of each layout in the tree, since a new file's
 -- is so and no operation changes one; and so of each layout that is told.
-use Rattle.std.proofs.Common.{◌≡◌, ℕ, ℤ, zero, suc, ◌+◌, ◌%◌, ◌<◌, ◌≤◌, Bool, true, false, List, [], ◌∷◌, Option, Some, None, inl, inr, ⊎_elim, refl, sym, subst, ap, ◌∙◌, arith}
-use Rattle.std.specs.Prelude.{nat_eq, length, map, slice_index, ◌==◌, if◌then◌else◌}
+use Rattle.std.proofs.Common.{◌≡◌, ℕ, ℤ, zero, suc, ◌+◌, ◌%◌, ◌<◌, ◌≤◌, Bool, true, false, List, [], ◌∷◌, Option, Some, None, ◌⊎◌, inl, inr, ⊎_elim, refl, sym, subst, ap, arith}
+use Rattle.std.specs.Prelude.{length, map, slice_index, ◌==◌, if◌then◌else◌}
 use Rattle.std.specs.List.{range_with_len}
 use Rattle.std.proofs.lemmas.Bool.{cond_both}
 use Rattle.std.proofs.lemmas.Bool.Decides.{nat_tests}
 use Rattle.lu_base.specs.declared.ids.At.{At}
 use Rattle.lu_base.specs.declared.ids.Fid.{Fid}
-use Rattle.lu_base.specs.declared.ids.Node.{Node}
-use Rattle.lu_base.specs.declared.ids.Node.TheVariants.{Client, Target}
 use Rattle.lu_base.specs.declared.ids.Txn.{Txn as TxnOf}
 use Rattle.lu_base.specs.declared.ids.Who.{Who}
 use Rattle.lu_layout.specs.Raid0.{Raid0}
@@ -34,20 +32,18 @@ use Rattle.lu_machine.proofs.Effects.{layout_after}
 use Rattle.lu_machine.proofs.Fits.{answers_fit}
 use Rattle.lu_machine.proofs.Walks.{there_ends, absent_ends, if_empty_ends, walk_ends, walk_up_ends, to_last_ends}
 use Rattle.lu_words.specs.Carried.{Deed}
-use Rattle.lu_words.specs.Words.{Entry, Act, Txn as Made, Grant, Line, line}
+use Rattle.lu_words.specs.Words.{Line}
 use Rattle.lu_words.specs.Concerns.{only}
 use Rattle.lu_covered.specs.TargetStates.{none, next_number, server_of}
 use Rattle.lu_covered.specs.Heads.{Head}
-use Rattle.lu_guards.proofs.StoryGuards.{ActOk, ActsOk, TxnOk, RangeOk}
-use Rattle.lu_guards.proofs.Acts.{sized_answer, range_answer}
-use Rattle.lu_guards.proofs.Grown.{Allowed, Grown}
-use Rattle.lu_guards.proofs.Lists.{self}
-use Rattle.lu_facts.proofs.Groups.{turn, Acted, HoldsAt, items_of}
+use Rattle.lu_guards.proofs.StoryGuards.{ActOk, TxnOk}
+use Rattle.lu_guards.proofs.Grown.{Grown}
+use Rattle.lu_facts.proofs.Groups.{Acted, HoldsAt, items_of}
 use Rattle.lu_facts.proofs.All.{holds}
 use Rattle.lu_facts.proofs.OverItems.{over_now}
 use Rattle.lu_facts.proofs.OnNames.{IsOnNames}
-use Rattle.lu_facts.proofs.GrantLines.{grant_either}
-use Rattle.lu_facts.proofs.Sides.{acted_only}
+use Rattle.lu_facts.proofs.ObjectAnswers.{IsObjectAnswer, OfObject}
+use Rattle.lu_facts.proofs.FirstDeeds.{first_does, acted_either}
 use Rattle.lu_facts.proofs.Asked.{acted_on_names}
 
 -- each of these is an object storage target of the run
@@ -291,42 +287,28 @@ table_laid osts t number who o laid is = by o is
     by (op.Open path) is = walk_ends t So (λ e. tt) root path (λ cs. row_open number who (last_of root cs)) (λ cs _. opens (last_of root cs))
     by o is = other_laid osts o (answer osts t (record { number = number; who = who; op = o })) (answers_fit osts t (record { number = number; who = who; op = o })) is
 
+-- an answer of an object tells none
+object_laid : (osts : ℕ) (a : Answer) → IsObjectAnswer a → IsLaid osts a
+object_laid osts told.Done is = tt
+object_laid osts (told.Granted cookie extent size) is = tt
+object_laid osts (told.Waiting cookie) is = tt
+object_laid osts (told.Content bytes) is = tt
+object_laid osts (told.Size size) is = tt
+object_laid osts told.Lock is = tt
+object_laid osts told.Uncovered is = tt
+object_laid osts a is = absurd is
+
 -- each layout that is told
 pub acted_laid : (head : Head) (past : List Line) (d : Deed) → Grown head past → Acted past d → IsLaid head.osts d.reply.answer
-acted_laid head [] d g a = absurd a
-acted_laid head (x ∷ past) d g a = by x.at.node x.entry g.0 a (λ at. acted_on_names head (x ∷ past) d g (acted_only head (x ∷ past) d 0 g a at)) (λ b. acted_laid head past d g.1 b)
+acted_laid head past d g a = ⊎_elim
+    (λ (b : Acted (only 0 past) d). let k = first_does head past d g b in by k.past k.grown k.at (acted_on_names head past d g b) k.does)
+    (λ (o : OfObject d). object_laid head.osts d.reply.answer o.answer)
+    (acted_either head past d g a)
   where
-    Done : Type 0
-    Done = IsLaid head.osts d.reply.answer
-
-    act : (at : At) → ActOk head.osts (only 0 past) at d → IsOnNames d.op → Done
-    act at ok is =
-        let v = server_of head.osts (only 0 past) in
-        subst (λ (y : Deed). IsLaid head.osts y.reply.answer) (sym ok.is) (table_laid head.osts v.tree none ok.request.who ok.request.op (laid head past g.1) (subst IsOnNames (ap (λ (y : Deed). y.op) ok.is) is))
-
-    txn : (at : At) → TxnOk head.osts (only 0 past) at d → IsOnNames d.op → Done
-    txn at ok is =
-        let v = server_of head.osts (only 0 past) in
-        subst (λ (y : Deed). IsLaid head.osts y.reply.answer) (sym ok.is) (table_laid head.osts v.tree (next_number v) ok.request.who ok.request.op (laid head past g.1) (subst IsOnNames (ap (λ (y : Deed). y.op) ok.is) is))
-
-    -- what is asked of objects tells of no file
-    acts : (t : ℕ) → ActsOk head.osts (only t past) (turn x.at.stamp (Target t)) t d → (d.reply.at.node ≡ Target 0 → IsOnNames d.op) → Done
-    acts t (inl k) is =
-        act (turn x.at.stamp (Target t)) (subst (λ (u : ℕ). ActOk head.osts (only u past) (turn x.at.stamp (Target t)) d) k.0 k.1) (is (ap (λ (y : Deed). y.reply.at.node) k.1.is ∙ ap Target k.0))
-    acts t (inr k) is = subst (IsLaid head.osts) (sym (sized_answer head.osts (only t past) (turn x.at.stamp (Target t)) d k.1)) tt
-
-    by : (node : Node) (e : Entry) → Allowed head past (turn x.at.stamp node) e → Acted (line (turn x.at.stamp node) e ∷ past) d → (d.reply.at.node ≡ Target 0 → IsOnNames d.op) → (Acted past d → Done) → Done
-    by (Client c) (Act e) k a is ih = absurd k.ok
-    by (Client c) (Made e) k a is ih = absurd k.ok
-    by (Client c) (Grant lock asked) k a is ih = absurd k.ok
-    by (Target t) (Grant lock asked) k (inl p) is ih = ⊎_elim ih
-        (λ (r : RangeOk head.osts (only t past) (turn x.at.stamp (Target t)) lock d). subst (IsLaid head.osts) (sym (range_answer head.osts (only t past) (turn x.at.stamp (Target t)) lock d r)) tt)
-        (grant_either head past x.at.stamp t lock asked d k p)
-    by (Target t) (Grant lock asked) k (inr b) is ih = ih b
-    by (Target t) (Act e) k (inl p) is ih = acts t (subst (λ (y : Deed). ActsOk head.osts (only t past) (turn x.at.stamp (Target t)) t y) p (k.of t (self t))) is
-    by (Target t) (Act e) k (inr b) is ih = ih b
-    by (Target t) (Made e) k (inl p) is ih =
-        let ok = subst (λ (y : Deed). TxnOk head.osts (only 0 past) (turn x.at.stamp (Target t)) y) p (k.of 0 (ap (λ (v : ℕ). nat_eq 0 v) k.ok)) in
-        txn (turn x.at.stamp (Target t)) ok (is (ap (λ (y : Deed). y.reply.at.node) ok.is ∙ ap Target k.ok))
-    by (Target t) (Made e) k (inr b) is ih = ih b
-    by _ _ k a is ih = ih a
+    by : (before : List Line) → Grown head before → (at : At) → IsOnNames d.op → ActOk head.osts (only 0 before) at d ⊎ TxnOk head.osts (only 0 before) at d → IsLaid head.osts d.reply.answer
+    by before grown at is (inl ok) =
+        let v = server_of head.osts (only 0 before) in
+        subst (λ (y : Deed). IsLaid head.osts y.reply.answer) (sym ok.is) (table_laid head.osts v.tree none ok.request.who ok.request.op (laid head before grown) (subst IsOnNames (ap (λ (y : Deed). y.op) ok.is) is))
+    by before grown at is (inr ok) =
+        let v = server_of head.osts (only 0 before) in
+        subst (λ (y : Deed). IsLaid head.osts y.reply.answer) (sym ok.is) (table_laid head.osts v.tree (next_number v) ok.request.who ok.request.op (laid head before grown) (subst IsOnNames (ap (λ (y : Deed). y.op) ok.is) is))

@@ -8,14 +8,17 @@ use Rattle.lu_base.specs.declared.ids.Node.TheVariants.{Client, Target}
 use Rattle.lu_base.specs.declared.ids.Stamp.{Stamp}
 use Rattle.lu_base.specs.declared.ids.Who.{Who}
 use Rattle.lu_base.specs.declared.locks.Lock.{Lock}
+use Rattle.lu_msg.specs.declared.messages.Message.TheVariants as message
+use Rattle.lu_msg.specs.declared.messages.Request.{Request as RequestOf}
 use Rattle.lu_words.specs.Carried.{Deed, Flight}
-use Rattle.lu_words.specs.Words.{Entry, Life, Flies, Heard, Act, Txn, Grant, Line, line, same_life}
+use Rattle.lu_words.specs.Words.{Entry, Life, Flies, Heard, Act, Txn, Grant, Wait, Answers, Ends, Line, line, same_life}
 use Rattle.lu_words.specs.Concerns.{concerns, only}
+use Rattle.lu_target_rows.specs.Glimpses.{by_holder}
 use Rattle.lu_covered.specs.ClientStates.{life_of, is_own}
 use Rattle.lu_covered.specs.Heads.{Head}
-use Rattle.lu_guards.proofs.Guards.{Did, OwesAsked, Owes, EntryOk}
-use Rattle.lu_guards.proofs.StoryGuards.{GrantsOk, EntryOf}
-use Rattle.lu_guards.proofs.Acts.{acted, range_acted}
+use Rattle.lu_guards.proofs.Guards.{Was, Did, OwesAsked, Owes, EntryOk}
+use Rattle.lu_guards.proofs.StoryGuards.{GrantsOk, TookReport, EndedBy, ReportedOk, EntryOf}
+use Rattle.lu_guards.proofs.Acts.{acted, range_acted, wait_acted, Responded, responded, made}
 use Rattle.lu_guards.proofs.Grown.{Grown}
 use Rattle.lu_guards.proofs.Lists.{self}
 use Rattle.lu_guards.proofs.ClientLines.{some_is}
@@ -27,24 +30,32 @@ abbrev pub DoneBy : Entry → Deed → Type 0
 DoneBy (Act e) d = e ≡ d
 DoneBy (Txn e) d = e ≡ d
 DoneBy (Grant lock asked) d = asked ≡ Some d
+DoneBy (Wait lock e) d = e ≡ d
+DoneBy (Answers e) d = e ≡ d
 DoneBy _ d = ⊥
 
 pub acted_line : (at : At) (e : Entry) (past : List Line) (d : Deed) → Acted (line at e ∷ past) d → DoneBy e d ⊎ Acted past d
 acted_line at (Act e) past d a = a
 acted_line at (Txn e) past d a = a
 acted_line at (Grant lock asked) past d a = a
+acted_line at (Wait lock e) past d a = a
+acted_line at (Answers e) past d a = a
 acted_line at e past d a = inr a
 
 pub acted_here : (at : At) (e : Entry) (past : List Line) (d : Deed) → DoneBy e d → Acted (line at e ∷ past) d
 acted_here at (Act e) past d q = inl q
 acted_here at (Txn e) past d q = inl q
 acted_here at (Grant lock asked) past d q = inl q
+acted_here at (Wait lock e) past d q = inl q
+acted_here at (Answers e) past d q = inl q
 acted_here at e past d q = absurd q
 
 pub acted_more : (at : At) (e : Entry) (past : List Line) (d : Deed) → Acted past d → Acted (line at e ∷ past) d
 acted_more at (Act e) past d a = inr a
 acted_more at (Txn e) past d a = inr a
 acted_more at (Grant lock asked) past d a = inr a
+acted_more at (Wait lock e) past d a = inr a
+acted_more at (Answers e) past d a = inr a
 acted_more at e past d a = a
 
 -- of what concerns one target
@@ -86,36 +97,75 @@ abbrev pub AtEach : Head → List Line → At → Node → Entry → Type 0
 AtEach head past at node e = (t : ℕ) → concerns t node e ≡ true → EntryOf head (only t past) at node e
 
 -- the locks of what was just done are shown in the same turn
-owed_turn : (past : List Line) (at : At) (lock : Lock) (asked : Option Deed) (d : Deed) → Did past d → Owes past at (Grant lock asked) → d.reply.at ≡ at
+owed_turn : (past : List Line) (at : At) (lock : Lock) (asked : Deed) (d : Deed) → Did past d → Owes past at (Grant lock (Some asked)) → d.reply.at ≡ at
 owed_turn [] at lock asked d i o = absurd i
 owed_turn (l ∷ past) at lock asked d i o = by l.entry i o
   where
-    same : (given : Option Deed) → given ≡ Some d → OwesAsked at given (Grant lock asked) → d.reply.at ≡ at
-    same None e o = absurd (cc)
-    same (Some x) e o = subst (λ (v : Deed). v.reply.at ≡ at) (some_is x d e) o
+    same : (k : Lock) (given : Option Deed) → given ≡ Some d → OwesAsked (l.at ≡ at) at k given (Grant lock (Some asked)) → d.reply.at ≡ at
+    same k None e o = absurd (cc)
+    same k (Some x) e o = subst (λ (v : Deed). v.reply.at ≡ at) (some_is x d e) o
 
-    by : (e : Entry) → Did (line l.at e ∷ past) d → Owes (line l.at e ∷ past) at (Grant lock asked) → d.reply.at ≡ at
+    by : (e : Entry) → Did (line l.at e ∷ past) d → Owes (line l.at e ∷ past) at (Grant lock (Some asked)) → d.reply.at ≡ at
     by (Act e) i o = subst (λ (v : Deed). v.reply.at ≡ at) i o
     by (Txn e) i o = subst (λ (v : Deed). v.reply.at ≡ at) i o
-    by (Grant k given) i o = same given i o
+    by (Grant k given) i o = same k given i o
+    by (Wait k e) i o = subst (λ (v : Deed). v.reply.at ≡ at) i o
+    by (Answers e) i o = absurd o.1
     by e i o = absurd i
 
--- what is done is done by a target, in this turn
+-- in this turn; or the turn is that in which the holder of a lock said the size
+abbrev pub DoneIn : Head → List Line → Stamp → ℕ → Deed → Type 0
+DoneIn head past stamp t d = (d.reply.at ≡ turn stamp (Target t)) ⊎ ReportedOk head.osts (only t past) (turn stamp (Target t)) t d
+
+-- what is done is done by a target
 pub done_here : (head : Head) (past : List Line) (stamp : Stamp) (node : Node) (e : Entry) → EntryOk past (turn stamp node) node e → AtEach head past (turn stamp node) node e → Owes past (turn stamp node) e
-    → (d : Deed) → DoneBy e d → ((t : ℕ) × (node ≡ Target t)) × (d.reply.at ≡ turn stamp node)
-done_here head past stamp (Target t) (Act x) ok of owes d e = ((t, refl), ap (λ (v : Deed). v.reply.at) (sym e) ∙ (acted head.osts (only t past) (turn stamp (Target t)) t x (of t (self t))).turn)
-done_here head past stamp (Target t) (Txn x) ok of owes d e = let k = of t (self t) in ((t, refl), ap (λ (v : Deed). v.reply.at) (sym e ∙ k.is))
-done_here head past stamp (Target t) (Grant lock (Some x)) ok of owes d e = ((t, refl), ap (λ (v : Deed). v.reply.at) (sym (some_is x d e)) ∙ by ok (of t (self t)))
+    → (d : Deed) → DoneBy e d → (t : ℕ) × (node ≡ Target t) × DoneIn head past stamp t d
+done_here head past stamp (Target t) (Act x) ok of owes d e = (t, refl, inl (ap (λ (v : Deed). v.reply.at) (sym e) ∙ (acted head.osts (only t past) (turn stamp (Target t)) t x (of t (self t))).turn))
+done_here head past stamp (Target t) (Txn x) ok of owes d e = (t, refl, inl (ap (λ (v : Deed). v.reply.at) (sym e) ∙ (made head.osts (only t past) (turn stamp (Target t)) t x (of t (self t))).turn))
+done_here head past stamp (Target t) (Wait lock x) ok of owes d e = (t, refl, inl (ap (λ (v : Deed). v.reply.at) (sym e) ∙ (wait_acted head.osts (only t past) (turn stamp (Target t)) lock x (of t (self t)).1).turn))
+done_here head past stamp (Target t) (Answers x) ok of owes d e = (t, refl, subst (DoneIn head past stamp t) e (by k.turn))
+  where
+    k : Responded head.osts (only t past) (turn stamp (Target t)) t x
+    k = responded head.osts (only t past) (turn stamp (Target t)) t x (of t (self t)).1
+
+    by : (k.when ≡ turn stamp (Target t)) ⊎ ReportedOk head.osts (only t past) (turn stamp (Target t)) t x → DoneIn head past stamp t x
+    by (inl q) = inl (ap (λ (v : Deed). v.reply.at) k.is ∙ q)
+    by (inr q) = inr q
+done_here head past stamp (Target t) (Grant lock (Some x)) ok of owes d e = (t, refl, inl (ap (λ (v : Deed). v.reply.at) (sym (some_is x d e)) ∙ by ok (of t (self t))))
   where
     by : EntryOk past (turn stamp (Target t)) (Target t) (Grant lock (Some x)) → GrantsOk head.osts (only t past) (turn stamp (Target t)) t lock x → x.reply.at ≡ turn stamp (Target t)
-    by (inl k) g = owed_turn past (turn stamp (Target t)) lock (Some x) x k.1 owes
+    by (inl k) g = owed_turn past (turn stamp (Target t)) lock x x k.1 owes
     by (inr k) (inl g) = absurd (let high = k.0 in let zero = g.0 in omega (arith, high, zero))
     by (inr k) (inr g) = (range_acted head.osts (only t past) (turn stamp (Target t)) lock x g.1).turn
 done_here head past stamp (Target t) (Grant lock None) ok of owes d e = absurd (cc)
 done_here head past stamp (Client c) (Act x) ok of owes d e = absurd ok
 done_here head past stamp (Client c) (Txn x) ok of owes d e = absurd ok
 done_here head past stamp (Client c) (Grant lock asked) ok of owes d e = absurd ok
+done_here head past stamp (Client c) (Wait lock x) ok of owes d e = absurd ok
+done_here head past stamp (Client c) (Answers x) ok of owes d e = absurd ok
 done_here head past stamp node e ok of owes d q = absurd q
+
+-- what a holder said was said to the target, in the turn that it names, and of the request that is answered
+pub reported_said : (osts : ℕ) (past : List Line) (at : At) (t : ℕ) (d : Deed) (k : ReportedOk osts past at t d)
+    → ((c : ℕ) × Was past (Client c) (Target t) (message.Size k.report)) × (d.reply.at ≡ by_holder k.report) × (d.reply.who ≡ k.report.for_who) × (d.reply.xid ≡ k.report.xid)
+reported_said osts past at t d k = (by past k.ended, ap (λ (x : Deed). x.reply.at) k.is, ap (λ (x : Deed). x.reply.who) k.is ∙ (on past k.ended).0, ap (λ (x : Deed). x.reply.xid) k.is ∙ (on past k.ended).1)
+  where
+    -- the line before that ended the glimpse took it
+    by : (p : List Line) → EndedBy (λ before g. (g.request ≡ k.request) × TookReport osts before at t g k.report) p at → (c : ℕ) × Was p (Client c) (Target t) (message.Size k.report)
+    by [] e = absurd e
+    by (l ∷ p) e = of l.entry e
+      where
+        of : (x : Entry) → EndedBy (λ before g. (g.request ≡ k.request) × TookReport osts before at t g k.report) (line l.at x ∷ p) at → (c : ℕ) × Was (line l.at x ∷ p) (Client c) (Target t) (message.Size k.report)
+        of (Ends g) e = (e.1.1.from, e.1.1.was)
+        of x e = absurd e
+
+    on : (p : List Line) → EndedBy (λ before g. (g.request ≡ k.request) × TookReport osts before at t g k.report) p at → (k.request.who ≡ k.report.for_who) × (k.request.xid ≡ k.report.xid)
+    on [] e = absurd e
+    on (l ∷ p) e = of l.entry e
+      where
+        of : (x : Entry) → EndedBy (λ before g. (g.request ≡ k.request) × TookReport osts before at t g k.report) (line l.at x ∷ p) at → (k.request.who ≡ k.report.for_who) × (k.request.xid ≡ k.report.xid)
+        of (Ends g) e = (ap (λ (r : RequestOf). r.who) (sym e.1.0) ∙ sym e.1.1.on.1, ap (λ (r : RequestOf). r.xid) (sym e.1.0) ∙ sym e.1.1.on.2)
+        of x e = absurd e
 
 -- ---- grown pasts
 
@@ -149,7 +199,7 @@ pub own_only : (who : Who) (t : ℕ) (past : List Line) (node : Node) → is_own
 own_only who t past (Client c) = ap (λ v. same_life who v) (life_only c t past)
 own_only who t past (Target u) = refl
 
-flew_more : (l : Line) (past : List Line) (who : Who) (f : Flight) → Flew past who f → Flew (l ∷ past) who f
+pub flew_more : (l : Line) (past : List Line) (who : Who) (f : Flight) → Flew past who f → Flew (l ∷ past) who f
 flew_more l past who f a = by l.entry
   where
     by : (e : Entry) → Flew (line l.at e ∷ past) who f

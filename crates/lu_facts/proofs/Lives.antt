@@ -13,7 +13,7 @@ use Rattle.lu_msg.specs.declared.messages.Message.{Message}
 use Rattle.lu_msg.specs.declared.messages.Message.TheVariants as message
 use Rattle.lu_msg.specs.declared.messages.Request.{Request as RequestOf}
 use Rattle.lu_words.specs.Carried.{Deed, Flight, Outcome}
-use Rattle.lu_words.specs.Words.{Entry, Send, Flies, Knows, Serves, Life, Act, Txn as Made, Grant, Evict, Joined, Close, Line, line, same_life}
+use Rattle.lu_words.specs.Words.{Entry, Send, Flies, Knows, Serves, Life, Act, Txn as Made, Grant, Wait, Answers, Evict, Joined, Close, Line, line, same_life}
 use Rattle.lu_target_rows.specs.Lives.{is_life}
 use Rattle.lu_covered.specs.Calls.{first_life}
 use Rattle.lu_covered.specs.Imports.{Standing, Joining, Recovering, Serving, interrupted}
@@ -255,6 +255,44 @@ lives_grant osts clients past stamp t lock asked k h =
       silent = h.silent;
     }
 
+lives_wait : (osts clients : ℕ) (past : List Line) (stamp : Stamp) (t : ℕ) (lock : Lock) (d : Deed) → let new = line (turn stamp (Target t)) (Wait lock d) ∷ past in Done osts clients new → Lives clients past → Lives clients new
+lives_wait osts clients past stamp t lock d k h =
+    record {
+      knows = h.knows;
+      low = h.low;
+      one = h.one;
+      apart = h.apart;
+      first = h.first;
+      served = h.served;
+      flew = h.flew;
+      acted = λ e a. let f = k.flew e a in h.flew e.reply.who f.0 f.1;
+      spoke = h.spoke;
+      ready = h.ready;
+      over = h.over;
+      knew = h.knew;
+      joins = h.joins;
+      silent = h.silent;
+    }
+
+lives_answers : (osts clients : ℕ) (past : List Line) (stamp : Stamp) (t : ℕ) (d : Deed) → let new = line (turn stamp (Target t)) (Answers d) ∷ past in Done osts clients new → Lives clients past → Lives clients new
+lives_answers osts clients past stamp t d k h =
+    record {
+      knows = h.knows;
+      low = h.low;
+      one = h.one;
+      apart = h.apart;
+      first = h.first;
+      served = h.served;
+      flew = h.flew;
+      acted = λ e a. let f = k.flew e a in h.flew e.reply.who f.0 f.1;
+      spoke = h.spoke;
+      ready = h.ready;
+      over = h.over;
+      knew = h.knew;
+      joins = h.joins;
+      silent = h.silent;
+    }
+
 -- ---- a life leaves, or one joins: who had a slot did so
 
 newer_more : (clients : ℕ) (past new : List Line) → ((x : Who) → Had clients past x → Had clients new x) → (who : Who) → Newer clients past who → Newer clients new who
@@ -460,6 +498,8 @@ module _ (head : Head) (past : List Line) (stamp : Stamp) (t : ℕ) (who : Who) 
 abbrev Says : ℕ → List Line → Message → Type 0
 Says clients past (message.Request r) = Had clients past r.who
 Says clients past (message.Cancel who boot cookie) = Had clients past who
+Says clients past (message.Where who boot cookie) = Had clients past who
+Says clients past (message.Size m) = Had clients past m.who
 Says clients past (message.Replay r) = Had clients past r.who
 Says clients past (message.Lock r) = Had clients past r.who
 Says clients past (message.Word who boot replays locks seen) = Had clients past who
@@ -470,6 +510,8 @@ Says clients past _ = Unit {0}
 says_had : (clients : ℕ) (past : List Line) (who : Who) (m : Message) → Says clients past m → SaidBy who m → Had clients past who
 says_had clients past who (message.Request r) h s = subst (Had clients past) s h
 says_had clients past who (message.Cancel other boot cookie) h s = subst (Had clients past) s h
+says_had clients past who (message.Where other boot cookie) h s = subst (Had clients past) s h
+says_had clients past who (message.Size m) h s = subst (Had clients past) s h
 says_had clients past who (message.Replay r) h s = subst (Had clients past) s h
 says_had clients past who (message.Lock r) h s = subst (Had clients past) s h
 says_had clients past who (message.Word other boot replays locks seen) h s = subst (Had clients past) s h
@@ -478,6 +520,8 @@ says_had clients past who m h s = absurd s
 says_old : (clients : ℕ) (past : List Line) (h : Lives clients past) (from into : Node) (m : Message) → Was past from into m → Says clients past m
 says_old clients past h from into (message.Request r) w = h.spoke from into r.who (message.Request r) w refl
 says_old clients past h from into (message.Cancel who boot cookie) w = h.spoke from into who (message.Cancel who boot cookie) w refl
+says_old clients past h from into (message.Where who boot cookie) w = h.spoke from into who (message.Where who boot cookie) w refl
+says_old clients past h from into (message.Size m) w = h.spoke from into m.who (message.Size m) w refl
 says_old clients past h from into (message.Replay r) w = h.spoke from into r.who (message.Replay r) w refl
 says_old clients past h from into (message.Lock r) w = h.spoke from into r.who (message.Lock r) w refl
 says_old clients past h from into (message.Word who boot replays locks seen) w = h.spoke from into who (message.Word who boot replays locks seen) w refl
@@ -552,26 +596,30 @@ spoke_evicted clients past t who none spoke h = gone (h.spoke (Client spoke.0) (
 told_had : (head : Head) (past : List Line) (c : ℕ) → c < head.clients → (who : Who) (boot : ℕ) → TellsOk past c who boot → Lives head.clients past → Had head.clients past who
 told_had head past c one who boot ok h = subst (Had head.clients past) (sym ok.of_life) (h.served c one (recovers_joins (standing_of c past) ok.recovers))
 
-sent_says : (head : Head) (past : List Line) (stamp : Stamp) (node to : Node) (m : Message) → SendOf head past node to m → IsOneOf head node → Locks head.osts head.clients (line (turn stamp node) (Send to m) ∷ past) → Lives head.clients past → Says head.clients past m
-sent_says head past stamp (Client c) (Target t) (message.Request r) ok one k h = subst (Had head.clients past) (sym (ap (λ (v : RequestOf). v.who) ok.is)) (h.served c one (serves_joins (standing_of c past) ok.serves))
-sent_says head past stamp (Client c) (Target t) (message.Cancel who boot cookie) ok one k h =
+sent_says : (head : Head) (past : List Line) (stamp : Stamp) (node to : Node) (m : Message) → SendOf head past node to m → IsOneOf head node → Done head.osts head.clients past → Locks head.osts head.clients (line (turn stamp node) (Send to m) ∷ past) → Lives head.clients past → Says head.clients past m
+sent_says head past stamp (Client c) (Target t) (message.Request r) ok one n k h = subst (Had head.clients past) (sym (ap (λ (v : RequestOf). v.who) ok.is)) (h.served c one (serves_joins (standing_of c past) ok.serves))
+sent_says head past stamp (Client c) (Target t) (message.Cancel who boot cookie) ok one n k h =
     let g = k.cancels (Client c) (Target t) who boot cookie (inl (refl, refl, refl)) in
     subst (Had head.clients past) g.of (h.acted g.deed g.gave.0)
-sent_says head past stamp (Client c) (Target t) (message.Join who boot) ok one k h = tt
-sent_says head past stamp (Client c) (Target t) (message.Replay r) ok one k h = told_had head past c one r.who r.boot ok.tells h
-sent_says head past stamp (Client c) (Target t) (message.Lock r) ok one k h = told_had head past c one r.who r.boot ok.tells h
-sent_says head past stamp (Client c) (Target t) (message.Word who boot replays locks seen) ok one k h = told_had head past c one who boot ok.tells h
-sent_says head past stamp (Target t) (Client c) (message.Up boot) ok one k h = tt
-sent_says head past stamp (Target t) (Client c) (message.Reply r) ok one k h = tt
-sent_says head past stamp (Target t) (Client c) (message.Block who boot cookie) ok one k h = tt
-sent_says head past stamp (Target t) (Client c) (message.Ready who boot committed) ok one k h = inl ok.has
-sent_says head past stamp (Target t) (Client c) (message.Evicted who boot) ok one k h = by ok.cause
+sent_says head past stamp (Client c) (Target t) (message.Where who boot cookie) ok one n k h = subst (Had head.clients past) (sym ok.of_life) (h.served c one (serves_joins (standing_of c past) ok.serves))
+sent_says head past stamp (Client c) (Target t) (message.Size m) ok one n k h = let asked = (n.sent (Target t) (Client c) (message.Ask m.who ok.boot m.cookie m.for_who m.xid) ok.was).1 in h.flew m.who asked.0 asked.1
+sent_says head past stamp (Client c) (Target t) (message.Join who boot) ok one n k h = tt
+sent_says head past stamp (Client c) (Target t) (message.Replay r) ok one n k h = told_had head past c one r.who r.boot ok.tells h
+sent_says head past stamp (Client c) (Target t) (message.Lock r) ok one n k h = told_had head past c one r.who r.boot ok.tells h
+sent_says head past stamp (Client c) (Target t) (message.Word who boot replays locks seen) ok one n k h = told_had head past c one who boot ok.tells h
+sent_says head past stamp (Target t) (Client c) (message.Up boot) ok one n k h = tt
+sent_says head past stamp (Target t) (Client c) (message.Grant g) ok one n k h = tt
+sent_says head past stamp (Target t) (Client c) (message.Ask who boot cookie for_who xid) ok one n k h = tt
+sent_says head past stamp (Target t) (Client c) (message.Reply r) ok one n k h = tt
+sent_says head past stamp (Target t) (Client c) (message.Block who boot cookie) ok one n k h = tt
+sent_says head past stamp (Target t) (Client c) (message.Ready who boot committed) ok one n k h = inl ok.has
+sent_says head past stamp (Target t) (Client c) (message.Evicted who boot) ok one n k h = by ok.cause
   where
     by : (is_life who (evicted_of past) ≡ true) ⊎ ((is_life who (lives_of head.clients past) ≡ false) × Spoke past t who) ⊎ Newer head.clients past who → Evicted past who ⊎ Newer head.clients past who
     by (inl e) = inl e
     by (inr (inl s)) = inl (spoke_evicted head.clients past t who s.0 s.1 h)
     by (inr (inr n)) = inr n
-sent_says head past stamp node to m ok one k h = absurd ok
+sent_says head past stamp node to m ok one n k h = absurd ok
 
 join_who : (who other : Who) (boot b : ℕ) → message.Join who boot ≡ message.Join other b → who ≡ other
 join_who who other boot b e = cc
@@ -606,9 +654,9 @@ sent_tells head past node to m ok one p = (omega arith, λ who boot e. absurd (c
 pub keeps_lives : (head : Head) (past : List Line) (stamp : Stamp) (node : Node) (e : Entry) → EntryOf head past (turn stamp node) node e → IsPlaced head past (line (turn stamp node) e) → HoldsAt head past
     → Done head.osts head.clients (line (turn stamp node) e ∷ past) → Locks head.osts head.clients (line (turn stamp node) e ∷ past) → Lives head.clients (line (turn stamp node) e ∷ past)
 keeps_lives head past stamp (Client c) (Send to m) ok placed h n k =
-    lives_send head.clients past stamp (Client c) to m (sent_says head past stamp (Client c) to m ok placed.one k h.lives) (sent_tells head past (Client c) to m ok placed.one h.phase) h.lives
+    lives_send head.clients past stamp (Client c) to m (sent_says head past stamp (Client c) to m ok placed.one h.done k h.lives) (sent_tells head past (Client c) to m ok placed.one h.phase) h.lives
 keeps_lives head past stamp (Target t) (Send to m) ok placed h n k =
-    lives_send head.clients past stamp (Target t) to m (sent_says head past stamp (Target t) to m ok placed.one k h.lives) (sent_tells head past (Target t) to m ok placed.one h.phase) h.lives
+    lives_send head.clients past stamp (Target t) to m (sent_says head past stamp (Target t) to m ok placed.one h.done k h.lives) (sent_tells head past (Target t) to m ok placed.one h.phase) h.lives
 keeps_lives head past stamp (Client c) (Flies t f) ok placed h n k = lives_flies head past stamp c t f ok placed.one h.phase h.lives
 keeps_lives head past stamp (Client c) (Serves t boot) ok placed h n k = lives_serves head.clients past stamp c t boot ok h.lives
 keeps_lives head past stamp (Client c) (Life who) ok placed h n k = lives_life head.osts head.clients past stamp c who ok h.phase h.numbers h.lives
@@ -617,6 +665,10 @@ keeps_lives head past stamp (Client c) (Act e) ok placed h n k = absurd ok
 keeps_lives head past stamp (Client c) (Made e) ok placed h n k = absurd ok
 keeps_lives head past stamp (Target t) (Act e) ok placed h n k = lives_act head.osts head.clients past stamp t e n h.lives
 keeps_lives head past stamp (Target t) (Made e) ok placed h n k = lives_txn head.osts head.clients past stamp t e n h.lives
+keeps_lives head past stamp (Client c) (Wait lock e) ok placed h n k = absurd ok
+keeps_lives head past stamp (Client c) (Answers e) ok placed h n k = absurd ok
+keeps_lives head past stamp (Target t) (Wait lock e) ok placed h n k = lives_wait head.osts head.clients past stamp t lock e n h.lives
+keeps_lives head past stamp (Target t) (Answers e) ok placed h n k = lives_answers head.osts head.clients past stamp t e n h.lives
 keeps_lives head past stamp (Client c) (Grant lock asked) ok placed h n k = absurd ok
 keeps_lives head past stamp (Target t) (Grant lock asked) ok placed h n k = lives_grant head.osts head.clients past stamp t lock asked n h.lives
 keeps_lives head past stamp (Target t) (Evict who cause) ok placed h n k =

@@ -1,14 +1,23 @@
 -- Lists of locks: which are granted after an act, and which are held after a line.
 use Rattle.std.proofs.Common.{◌≡◌, ℕ, ◌+◌, Bool, true, false, List, [], ◌∷◌, ◌⊎◌, inl, inr, ⊎_elim, refl, sym, subst, ap, ◌∙◌, arith}
-use Rattle.std.specs.Prelude.{nat_eq, nat_lt, map, not, ◌++◌, ◌||◌, if◌then◌else◌}
+use Rattle.std.specs.Prelude.{nat_eq, nat_lt, map, not, ◌++◌, ◌||◌, ◌&&◌, if◌then◌else◌}
 use Rattle.std.specs.List.{filter}
-use Rattle.std.proofs.lemmas.Bool.{and_parts, and_from, or_parts, or_from, cond_both, eqb-true, eqb-false, eq-eqb}
+use Rattle.std.proofs.lemmas.Bool.Decides.{nat_tests}
+use Rattle.std.proofs.lemmas.Bool.{and_parts, and_from, or_parts, or_from, cond_both, eqb-true, eqb-false, eq-eqb, not-true}
 use Rattle.lu_base.specs.declared.ids.Cookie.{Cookie}
 use Rattle.lu_base.specs.declared.ids.TargetId.{TargetId}
 use Rattle.lu_base.specs.declared.ids.Txn.{Txn}
 use Rattle.lu_base.specs.declared.ids.Who.{Who}
+use Rattle.lu_base.specs.declared.locks.Ask.{Ask}
 use Rattle.lu_base.specs.declared.locks.Lock.{Lock}
+use Rattle.lu_base.specs.declared.locks.Mode.{Mode}
 use Rattle.lu_base.specs.declared.locks.Mode.TheVariants.{PR}
+use Rattle.lu_base.specs.declared.locks.Policy.{Policy}
+use Rattle.lu_base.specs.declared.locks.Policy.TheVariants.{Bits, Range}
+use Rattle.lu_base.specs.declared.locks.Resource.{Resource}
+use Rattle.lu_lock.specs.Conflict.{conflict, conflicts_with_any}
+use Rattle.lu_lock.specs.Modes.{compatible}
+use Rattle.lu_lock.specs.Overlap.{policies_meet}
 use Rattle.lu_part.specs.declared.parts.Want.{Want}
 use Rattle.lu_msg.specs.declared.answers.Answer.{Answer}
 use Rattle.lu_msg.specs.declared.answers.Answer.TheVariants as answer
@@ -19,19 +28,20 @@ use Rattle.lu_held.specs.declared.locks.Change.{Change}
 use Rattle.lu_held.specs.declared.locks.Change.TheVariants.{Mark, Unmark, Pin, Unpin}
 use Rattle.lu_held.specs.declared.locks.HeldLock.{HeldLock}
 use Rattle.lu_held.specs.declared.names.LockName.{LockName}
-use Rattle.lu_held.specs.Locks.{is_named, after}
+use Rattle.lu_held.specs.Locks.{same_resource, is_named, after}
 use Rattle.lu_held.specs.Locks as held
 use Rattle.lu_held.specs.Held.{is_held, changed, without, used, unmarked}
 use Rattle.lu_target_rows.specs.Lives.{is_life}
 use Rattle.lu_target_rows.specs.Locks.{with_lock, with_locks, locks_without}
 use Rattle.lu_target_rows.specs.Names.{locks_from}
+use Rattle.lu_target_rows.specs.Replies.{asks_of, locks_on}
 use Rattle.lu_words.specs.Words.{same_life}
 use Rattle.lu_client_rows.specs.Caches.{held_as, with_held, with_brought, granted_lock, brought}
 use Rattle.lu_guards.proofs.Guards.{In, name_of}
 use Rattle.lu_guards.proofs.Lists.{in_append, in_filter, in_filtered, life_is}
 use Rattle.lu_guards.proofs.ClientLocks.{in_map}
 use Rattle.lu_guards.proofs.ClientLines.{from_high}
-use Rattle.lu_facts.proofs.Groups.{NoneOf}
+use Rattle.lu_facts.proofs.Groups.{NoneOf, IsKind}
 
 -- ---- the locks of an act: of one life, for reading, each with a cookie of its own above the greatest one
 
@@ -40,10 +50,19 @@ from_who cookie who [] l i = absurd i
 from_who cookie who (want ∷ wants) l (inl e) = ap (λ (k : Lock). k.ask.who) (sym e)
 from_who cookie who (want ∷ wants) l (inr i) = from_who (cookie + 1) who wants l i
 
-pub from_mode : (cookie : ℕ) (who : Who) (wants : List Want) (l : Lock) → In l (locks_from cookie who wants) → l.ask.mode ≡ PR
-from_mode cookie who [] l i = absurd i
-from_mode cookie who (want ∷ wants) l (inl e) = ap (λ (k : Lock). k.ask.mode) (sym e)
-from_mode cookie who (want ∷ wants) l (inr i) = from_mode (cookie + 1) who wants l i
+-- for reading, on bits
+abbrev pub IsBitsKind : Mode → Policy → Type 0
+IsBitsKind mode (Bits bits) = mode ≡ PR
+IsBitsKind mode (Range extent) = ⊥
+
+pub from_bits : (cookie : ℕ) (who : Who) (wants : List Want) (l : Lock) → In l (locks_from cookie who wants) → IsBitsKind l.ask.mode l.ask.policy
+from_bits cookie who [] l i = absurd i
+from_bits cookie who (want ∷ wants) l (inl e) = subst (λ (k : Lock). IsBitsKind k.ask.mode k.ask.policy) e refl
+from_bits cookie who (want ∷ wants) l (inr i) = from_bits (cookie + 1) who wants l i
+
+pub bits_kind : (mode : Mode) (policy : Policy) → IsBitsKind mode policy → IsKind mode policy
+bits_kind mode (Bits bits) b = b
+bits_kind mode (Range extent) b = absurd b
 
 pub from_once : (cookie : ℕ) (who : Who) (wants : List Want) (l k : Lock) → In l (locks_from cookie who wants) → In k (locks_from cookie who wants) → l.cookie.0 ≡ k.cookie.0 → l ≡ k
 from_once cookie who [] l k i j e = absurd i
@@ -57,6 +76,35 @@ from_once cookie who (want ∷ wants) l k (inr i) (inl q) e =
     let y = from_high (cookie + 1) who wants l i in
     absurd (omega arith)
 from_once cookie who (want ∷ wants) l k (inr i) (inr j) e = from_once (cookie + 1) who wants l k i j e
+
+-- ---- conflicts
+
+and_false : (b : Bool) → (b && false) ≡ false
+and_false true = refl
+and_false false = refl
+
+-- such a lock conflicts with none of any kind
+pub bits_clear : (a b : Ask) → IsBitsKind a.mode a.policy → IsKind b.mode b.policy → conflict a b ≡ false
+bits_clear a b k j = by a.mode a.policy b.mode b.policy k j
+  where
+    by : (m : Mode) (p : Policy) (n : Mode) (q : Policy) → IsBitsKind m p → IsKind n q → (not (compatible m n) && policies_meet p q) ≡ false
+    by m (Bits x) n (Bits y) k j = rw (k, j) refl
+    by m (Bits x) n (Range e) k j = and_false (not (compatible m n))
+    by m (Range e) n q k j = absurd k
+
+-- what conflicts with none of a list conflicts with each of it
+pub none_of_any : (ask : Ask) (ks : List Lock) → conflicts_with_any ask (asks_of ks) ≡ false → (k : Lock) → In k ks → conflict ask k.ask ≡ false
+none_of_any ask [] e k i = absurd i
+none_of_any ask (j ∷ ks) e k i =
+    let p = or_parts (conflict ask j.ask) (conflicts_with_any ask (asks_of ks)) e in
+    ⊎_elim (λ (q : j ≡ k). ap (λ (v : Lock). conflict ask v.ask) (sym q) ∙ p.0) (λ (m : In k ks). none_of_any ask ks p.1 k m) i
+
+-- and so with what of them is on one resource
+pub on_resource : (r : Resource) (ks : List Lock) (k : Lock) → In k ks → k.resource ≡ r → In k (locks_on r ks)
+on_resource r ks k i e = in_filtered (λ (l : Lock). same_resource l.resource r) k ks i (ap (λ (x : Resource). same_resource x r) e ∙ resource_self r)
+  where
+    resource_self : (x : Resource) → same_resource x x ≡ true
+    resource_self x = grind (arith, nat_tests)
 
 -- ---- granted locks
 
@@ -130,6 +178,10 @@ leaves_or who ls l i =
 
 pub left_in : (who : Who) (ls : List Lock) (l : Lock) → In l (locks_without (who ∷ []) ls) → In l ls
 left_in who ls l i = (in_filter (λ (k : Lock). not (is_life k.ask.who (who ∷ []))) l ls i).0
+
+-- what is left is of another life
+pub not_left : (who : Who) (ls : List Lock) (l : Lock) → In l (locks_without (who ∷ []) ls) → is_life l.ask.who (who ∷ []) ≡ false
+not_left who ls l i = not-true (is_life l.ask.who (who ∷ [])) (in_filter (λ (k : Lock). not (is_life k.ask.who (who ∷ []))) l ls i).1
 
 -- ---- held locks by name and by cookie
 

@@ -1,208 +1,164 @@
--- Locks at one target: each lock that an act gave is granted, or dead, which means that the reply that brings it was heard and its client holds it no
--- more, or its life was evicted, or a close came while it wasn't held, and it will be heard of no more. What is held came with a reply that its life
--- heard, and is granted, unless that life was evicted; what is given back is dead. A crash takes nothing of this away, but what is granted isn't shown
--- after it until a close shows it again.
-use Rattle.std.proofs.Common.{◌≡◌, ℕ, ◌<◌, List, [], ◌∷◌, Some, None, ◌⊎◌, inl, inr, ⊎_elim, refl, sym, subst, ap, arith}
-use Rattle.std.specs.Prelude.{nat_eq}
-use Rattle.std.proofs.lemmas.Bool.{cond_both, eqb-true}
+-- Locks at one target: each lock that was given is granted, or dead, which means that its life heard of it, holds it no more and doesn't wait for it, or
+-- its life was evicted, or a close came while it wasn't held, and it will be heard of no more. What is held came with a reply that its life heard, or was
+-- told it to wait, and is granted, unless that life was evicted; what is given back is dead; granted locks never conflict. A crash takes nothing of this
+-- away, but what is granted isn't shown after it until a close shows it again.
+use Rattle.std.proofs.Common.{◌≡◌, ℕ, ◌<◌, List, [], ◌∷◌, Some, None, ◌⊎◌, inl, inr, ⊎_elim, sym, subst, arith}
 use Rattle.lu_base.specs.declared.ids.Node.{Node}
 use Rattle.lu_base.specs.declared.ids.Node.TheVariants.{Client, Target}
 use Rattle.lu_base.specs.declared.ids.Stamp.{Stamp}
-use Rattle.lu_base.specs.declared.locks.Lock.{Lock}
-use Rattle.lu_words.specs.Carried.{Disk, Outcome}
-use Rattle.lu_words.specs.Words.{Entry, Send, Heard, Hold, Drop, Knows, Life, Pins, Unpins, Marks, Unmarks, Act, Txn as Made, Grant, Release, Evict, Crash, Boot, Close, Restore, Line, line}
-use Rattle.lu_covered.specs.TargetStates.{server_of, shown_of}
-use Rattle.lu_covered.specs.TargetCloses.{but_first, closing_of}
-use Rattle.lu_covered.specs.ClientStates.{known_of}
+use Rattle.lu_words.specs.Carried.{Outcome}
+use Rattle.lu_words.specs.Words.{Entry, Send, Heard, Hold, Drop, Knows, Life, Pins, Unpins, Marks, Unmarks, Act, Txn as Made, Answers, Grant, Wait, Release, Evict, Joined, Crash, Boot, Close, Restore, Brings, Line, line}
 use Rattle.lu_covered.specs.Heads.{Head}
-use Rattle.lu_guards.proofs.Guards.{In}
-use Rattle.lu_guards.proofs.StoryGuards.{BootKnownOk, BackOk, LeftOk, BootOk, IsServing, EntryOf}
-use Rattle.lu_guards.proofs.Acts.{acted}
-use Rattle.lu_guards.proofs.Grown.{ShowsNext, IsPlaced}
-use Rattle.lu_facts.proofs.Groups.{turn, Phase, Dead, Evicted, Lapsed, Locks, HoldsAt}
-use Rattle.lu_facts.proofs.LocksStay.{one_of_four, StaysDead, StaysLapsed, still_closing, stays_dead, stays_lapsed, pins_held, unpins_held, marks_held, unmarks_held, shown_held, kept_dead, kept_lapsed, locks_pins, locks_unpins, locks_marks, locks_unmarks, locks_hold}
+use Rattle.lu_guards.proofs.StoryGuards.{GrantOk, RangeOk, EvictOk, LeavesOk, JoinedOk, ComesOk, EntryOf}
+use Rattle.lu_guards.proofs.Grown.{IsPlaced}
+use Rattle.lu_facts.proofs.Groups.{turn, Locks, HoldsAt}
+use Rattle.lu_facts.proofs.LocksStay.{StaysDead, StaysLapsed, Stays, stays_dead, stays_lapsed}
+use Rattle.lu_facts.proofs.LocksHeld.{pins_stays, unpins_stays, marks_stays, unmarks_stays, drops_stay, locks_pins, locks_unpins, locks_marks, locks_unmarks, locks_hold, locks_drop}
 use Rattle.lu_facts.proofs.LocksSaid.{sent_said, locks_send}
-use Rattle.lu_facts.proofs.LocksHeard.{drops_stay, locks_drop, heard_dead, heard_lapsed, locks_heard, locks_life}
-use Rattle.lu_facts.proofs.LocksGiven.{locks_act, locks_grant, locks_txn, locks_back, locks_left, locks_evict}
+use Rattle.lu_facts.proofs.LocksHeard.{heard_stays, holds_stay, knows_stays, locks_heard, locks_knows, locks_life}
+use Rattle.lu_facts.proofs.LocksGranted.{locks_act, locks_range, locks_wait, locks_promote}
+use Rattle.lu_facts.proofs.LocksTaken.{still_shown, locks_txn, locks_answers, locks_names, locks_release, locks_evict, locks_join, locks_crash, locks_boot, locks_brings}
 use Rattle.lu_facts.proofs.LocksClose.{locks_close, locks_restore}
-
--- ---- a crash and a boot: what is granted stands, but isn't shown any more; and from a boot on nothing is served
-
-locks_crash : (osts clients : ℕ) (past : List Line) (stamp : Stamp) (t : ℕ) → Locks osts clients past → Locks osts clients (line (turn stamp (Target t)) Crash ∷ past)
-locks_crash osts clients past stamp t h =
-    record {
-      whose = h.whose;
-      readers = h.readers;
-      cookies = h.cookies;
-      greatest = h.greatest;
-      low = λ v d l g. let up = v.up in absurd (cc);
-      once = h.once;
-      granted = h.granted;
-      held = h.held;
-      alive = h.alive;
-      shown = λ v u l i. absurd (cc);
-      blocks = h.blocks;
-      cancels = h.cancels;
-      gone = h.gone;
-    }
-
-locks_boot : (head : Head) (past : List Line) (stamp : Stamp) (t boot : ℕ) (disk : Disk) → BootOk head past boot disk → Phase head.osts past → Locks head.osts head.clients past → Locks head.osts head.clients (line (turn stamp (Target t)) (Boot boot disk) ∷ past)
-locks_boot head past stamp t boot disk ok p h =
-    record {
-      whose = h.whose;
-      readers = h.readers;
-      cookies = h.cookies;
-      greatest = (omega arith, omega arith);
-      low = λ v d l g. absurd (unserved v);
-      once = h.once;
-      granted = h.granted;
-      held = h.held;
-      alive = h.alive;
-      shown = λ v u l i. absurd (unserved v);
-      blocks = h.blocks;
-      cancels = h.cancels;
-      gone = h.gone;
-    }
-  where
-    unserved : IsServing head.osts (line (turn stamp (Target t)) (Boot boot disk) ∷ past) → ⊥
-    unserved v = let closed = v.closed in let n = ok.next in let low = p.under in omega (arith, closed, n, low)
-
--- ---- a client is told a newer boot
-
--- what lapsed has still
-knows_lapsed : (past : List Line) (stamp : Stamp) (c t boot : ℕ) → BootKnownOk past c t boot → StaysLapsed past (line (turn stamp (Client c)) (Knows t boot) ∷ past)
-knows_lapsed past stamp c t boot ok d l g x = (
-  cond_both (nat_eq d.reply.who.client c) boot (known_of d.reply.who.client past) (λ n. d.reply.boot < n)
-      (λ q. let lt = x.0 in let more = ok.newer in let same : known_of d.reply.who.client past ≡ known_of c past = ap (λ v. known_of v past) (eqb-true d.reply.who.client c q) in omega (arith, lt, more, same))
-      (λ q. x.0),
-  x.1,
-)
-
-locks_knows : (osts clients : ℕ) (past : List Line) (stamp : Stamp) (c t boot : ℕ) → BootKnownOk past c t boot → Locks osts clients past → Locks osts clients (line (turn stamp (Client c)) (Knows t boot) ∷ past)
-locks_knows osts clients past stamp c t boot ok h =
-    record {
-      whose = h.whose;
-      readers = h.readers;
-      cookies = h.cookies;
-      greatest = h.greatest;
-      low = h.low;
-      once = h.once;
-      granted = h.granted;
-      held = h.held;
-      alive = λ d l g. one_of_four
-          (λ (i : In l (server_of osts past).granted). inl i)
-          (λ (x : Dead past d l). inr (inl x))
-          (λ (x : Evicted past d.reply.who). inr (inr (inl x)))
-          (λ (x : Lapsed past d l). inr (inr (inr (knows_lapsed past stamp c t boot ok d l g x))))
-          (h.alive d l g);
-      shown = h.shown;
-      blocks = h.blocks;
-      cancels = h.cancels;
-      gone = h.gone;
-    }
-
--- ---- a line of the target that changes nothing of locks: what a close has still to show is one line less
-
-still_shown : (head : Head) (past : List Line) (stamp : Stamp) (t : ℕ) (e : Entry) → ShowsNext head past (turn stamp (Target t)) e → (l : Lock) → (e ≡ Restore l → ⊥) → In l (shown_of past) ⊎ In (Restore l) (closing_of head.clients past)
-    → In l (shown_of past) ⊎ In (Restore l) (but_first (closing_of head.clients past))
-still_shown head past stamp t e shows l other =
-    ⊎_elim (λ (i : In l (shown_of past)). inl i) (λ (i : In (Restore l) (closing_of head.clients past)). inr (still_closing head past (turn stamp (Target t)) e shows l other i))
 
 -- ---- each line
 
 pub keeps_locks : (head : Head) (past : List Line) (stamp : Stamp) (node : Node) (e : Entry) → EntryOf head past (turn stamp node) node e → IsPlaced head past (line (turn stamp node) e) → HoldsAt head past
     → Locks head.osts head.clients (line (turn stamp node) e ∷ past)
-keeps_locks head past stamp (Client c) (Send to m) ok placed h = locks_send head past stamp (Client c) to m placed.shows (sent_said head past (Client c) to m ok h) h.locks
-keeps_locks head past stamp (Target t) (Send to m) ok placed h = locks_send head past stamp (Target t) to m placed.shows (sent_said head past (Target t) to m ok h) h.locks
+keeps_locks head past stamp (Client c) (Send to m) ok placed h = locks_send head past stamp (Client c) to m placed.shows (sent_said head past (Client c) to m ok h) h.phase.client h.locks
+keeps_locks head past stamp (Target t) (Send to m) ok placed h = locks_send head past stamp (Target t) to m placed.shows (sent_said head past (Target t) to m ok h) h.phase.client h.locks
 keeps_locks head past stamp (Client c) (Heard t f r) ok placed h = locks_heard head past stamp c t f r ok h
-keeps_locks head past stamp (Client c) (Hold t lock marked size seen) ok placed h = locks_hold head.osts head.clients past stamp c h.locks t lock marked size seen ok.1
-keeps_locks head past stamp (Client c) (Drop t lock) ok placed h = locks_drop head.osts head.clients past stamp c t lock ok h.phase h.locks
-keeps_locks head past stamp (Client c) (Pins name) ok placed h = locks_pins head.osts head.clients past stamp c h.locks name
-keeps_locks head past stamp (Client c) (Unpins name) ok placed h = locks_unpins head.osts head.clients past stamp c h.locks name
-keeps_locks head past stamp (Client c) (Marks name) ok placed h = locks_marks head.osts head.clients past stamp c h.locks name
-keeps_locks head past stamp (Client c) (Unmarks t) ok placed h = locks_unmarks head.osts head.clients past stamp c h.locks t
-keeps_locks head past stamp (Client c) (Knows t boot) ok placed h = locks_knows head.osts head.clients past stamp c t boot ok h.locks
-keeps_locks head past stamp (Client c) (Life who) ok placed h = locks_life head.osts head.clients past stamp c who ok h.locks
-keeps_locks head past stamp (Target t) (Act d) ok placed h = locks_act head past stamp t d placed.shows ok (acted head.osts past (turn stamp (Target t)) t d ok).serves h.locks
-keeps_locks head past stamp (Target t) (Grant lock (Some d)) ok placed h = locks_grant head past stamp t lock d placed.shows ok h.locks
-keeps_locks head past stamp (Target t) (Made d) ok placed h = locks_txn head past stamp t d placed.shows ok h.locks
-keeps_locks head past stamp (Target t) (Release lock) ok placed h =
-    ⊎_elim (λ (b : BackOk head.osts past t lock). locks_back head past stamp t lock placed.shows b h.phase h.locks) (λ (b : LeftOk head.osts past lock). locks_left head past stamp t lock placed.shows b h.locks) ok.1
-keeps_locks head past stamp (Target t) (Evict who cause) ok placed h = locks_evict head past stamp t who cause placed.shows h.locks
-keeps_locks head past stamp (Target t) Crash ok placed h = locks_crash head.osts head.clients past stamp t h.locks
-keeps_locks head past stamp (Target t) (Boot boot disk) ok placed h = locks_boot head past stamp t boot disk ok h.phase h.locks
+keeps_locks head past stamp (Client c) (Hold t lock marked size seen) ok placed h = locks_hold head.osts head.clients past stamp c h.phase.client h.locks t lock marked size seen (holds_stay head past stamp c t lock marked size seen ok h)
+keeps_locks head past stamp (Client c) (Drop t lock) ok placed h = locks_drop head.osts head.clients past stamp c h.phase.client h.locks t lock ok
+keeps_locks head past stamp (Client c) (Pins name) ok placed h = locks_pins head.osts head.clients past stamp c h.phase.client h.locks name
+keeps_locks head past stamp (Client c) (Unpins name) ok placed h = locks_unpins head.osts head.clients past stamp c h.phase.client h.locks name
+keeps_locks head past stamp (Client c) (Marks name) ok placed h = locks_marks head.osts head.clients past stamp c h.phase.client h.locks name
+keeps_locks head past stamp (Client c) (Unmarks t) ok placed h = locks_unmarks head.osts head.clients past stamp c h.phase.client h.locks t
+keeps_locks head past stamp (Client c) (Knows t boot) ok placed h = locks_knows head.osts head.clients past stamp c t boot ok h.phase.client h.locks
+keeps_locks head past stamp (Client c) (Life who) ok placed h = locks_life head past stamp c who ok h
+keeps_locks head past stamp (Target t) (Act d) ok placed h = locks_act head past stamp t d placed.shows ok h
+keeps_locks head past stamp (Target t) (Grant lock (Some d)) ok placed h =
+    ⊎_elim (λ (k : (t ≡ 0) × GrantOk head.osts past lock d). locks_names head past stamp t h lock d placed.shows k.1) (λ (k : (0 < t) × RangeOk head.osts past (turn stamp (Target t)) lock d). locks_range head past stamp t lock d placed.shows k.1 h) ok
+keeps_locks head past stamp (Target t) (Grant lock None) ok placed h = locks_promote head past stamp t lock placed.shows ok.1 h
+keeps_locks head past stamp (Target t) (Wait lock d) ok placed h = locks_wait head past stamp t lock d placed.shows ok.1 h
+keeps_locks head past stamp (Target t) (Made d) ok placed h = locks_txn head past stamp t h d placed.shows ok
+keeps_locks head past stamp (Target t) (Answers d) ok placed h = locks_answers head past stamp t h d placed.shows ok.1
+keeps_locks head past stamp (Target t) (Release lock) ok placed h = locks_release head past stamp t h lock placed.shows ok
+keeps_locks head past stamp (Target t) (Evict who cause) ok placed h =
+    locks_evict head past stamp t h who cause placed.shows (⊎_elim (λ (k : EvictOk head past (turn stamp (Target t)) who cause). k.serves) (λ (k : LeavesOk head past (turn stamp (Target t)) who cause). k.serves) ok)
+keeps_locks head past stamp (Target t) (Joined who) ok placed h =
+    locks_join head past stamp t h who placed.shows (⊎_elim (λ (k : JoinedOk head past (turn stamp (Target t)) t who). k.serves) (λ (k : ComesOk head past (turn stamp (Target t)) t who). k.serves) ok)
+keeps_locks head past stamp (Target t) Crash ok placed h = locks_crash head past stamp t h
+keeps_locks head past stamp (Target t) (Boot boot disk) ok placed h = locks_boot head past stamp t h boot disk ok
+keeps_locks head past stamp (Target t) (Brings lock) ok placed h = locks_brings head past stamp t h lock placed.shows ok
 keeps_locks head past stamp (Target t) (Close close) ok placed h =
     subst (λ (o : Outcome). Locks head.osts head.clients (line (turn stamp (Target t)) (Close o) ∷ past)) (sym ok.is) (locks_close head past stamp t ok.recovers ok.of_removed h)
-keeps_locks head past stamp (Target t) (Restore lock) ok placed h = locks_restore head past stamp t lock placed.shows ok h.locks
+keeps_locks head past stamp (Target t) (Restore lock) ok placed h = locks_restore head past stamp t lock placed.shows ok h.phase.client h.locks
 keeps_locks head past stamp (Client c) (Act d) ok placed h = absurd ok
 keeps_locks head past stamp (Client c) (Made d) ok placed h = absurd ok
 keeps_locks head past stamp (Client c) (Grant lock asked) ok placed h = absurd ok
-keeps_locks head past stamp (Target t) (Grant lock None) ok placed h = absurd ok
+keeps_locks head past stamp (Client c) (Wait lock d) ok placed h = absurd ok
+keeps_locks head past stamp (Client c) (Answers d) ok placed h = absurd ok
 keeps_locks head past stamp (Target t) (Heard u f r) ok placed h = absurd ok
+keeps_locks head past stamp (Target t) (Hold u lock marked size seen) ok placed h = absurd ok
 keeps_locks head past stamp (Target t) (Drop u lock) ok placed h = absurd ok
 keeps_locks head past stamp (Client c) e ok placed h = h.locks
 keeps_locks head past stamp (Target t) e ok placed h =
     let k = h.locks in
     record {
       whose = k.whose;
-      readers = k.readers;
+      kinds = k.kinds;
+      promoted = k.promoted;
+      bare = k.bare;
       cookies = k.cookies;
       greatest = k.greatest;
       low = k.low;
+      named = k.named;
       once = k.once;
       granted = k.granted;
+      apart = k.apart;
+      waits = k.waits;
       held = k.held;
       alive = k.alive;
+      kin = k.kin;
       shown = λ v u l i. still_shown head past stamp t e placed.shows l (λ q. absurd (cc)) (k.shown v u l i);
+      single = k.single;
+      awaits = k.awaits;
       blocks = k.blocks;
       cancels = k.cancels;
       gone = k.gone;
+      notices = k.notices;
+      relocks = k.relocks;
+      brought = k.brought;
     }
 
--- what is dead stays so
-pub keeps_dead : (head : Head) (past : List Line) (stamp : Stamp) (node : Node) (e : Entry) → EntryOf head past (turn stamp node) node e → HoldsAt head past → StaysDead past (line (turn stamp node) e ∷ past)
-keeps_dead head past stamp (Client c) (Heard t f r) ok h = heard_dead head past stamp c t f r ok h
-keeps_dead head past stamp (Client c) (Hold t lock marked size seen) ok h = kept_dead past stamp c (Hold t lock marked size seen) (λ d x a. a) (shown_held past stamp c t lock marked size seen ok.1)
-keeps_dead head past stamp (Client c) (Drop t lock) ok h =
-    stays_dead head.osts head.clients past (line (turn stamp (Client c)) (Drop t lock) ∷ past) (drops_stay head.osts head.clients past stamp c t lock ok h.phase h.locks) h.locks
-keeps_dead head past stamp (Client c) (Pins name) ok h = kept_dead past stamp c (Pins name) (λ d x a. a) (pins_held past stamp c name)
-keeps_dead head past stamp (Client c) (Unpins name) ok h = kept_dead past stamp c (Unpins name) (λ d x a. a) (unpins_held past stamp c name)
-keeps_dead head past stamp (Client c) (Marks name) ok h = kept_dead past stamp c (Marks name) (λ d x a. a) (marks_held past stamp c name)
-keeps_dead head past stamp (Client c) (Unmarks t) ok h = kept_dead past stamp c (Unmarks t) (λ d x a. a) (unmarks_held past stamp c t)
-keeps_dead head past stamp (Target t) (Heard u f r) ok h = absurd ok
-keeps_dead head past stamp (Target t) (Drop u lock) ok h = absurd ok
-keeps_dead head past stamp node e ok h = λ d l g x. x
+-- ---- what is over stays so
 
--- and so does what has lapsed
-pub keeps_lapsed : (head : Head) (past : List Line) (stamp : Stamp) (node : Node) (e : Entry) → EntryOf head past (turn stamp node) node e → HoldsAt head past → StaysLapsed past (line (turn stamp node) e ∷ past)
-keeps_lapsed head past stamp (Client c) (Heard t f r) ok h = heard_lapsed head past stamp c t f r ok h
-keeps_lapsed head past stamp (Client c) (Hold t lock marked size seen) ok h = kept_lapsed past stamp c (Hold t lock marked size seen) (λ d. refl) (shown_held past stamp c t lock marked size seen ok.1)
-keeps_lapsed head past stamp (Client c) (Drop t lock) ok h =
-    stays_lapsed head.osts head.clients past (line (turn stamp (Client c)) (Drop t lock) ∷ past) (drops_stay head.osts head.clients past stamp c t lock ok h.phase h.locks) h.locks
-keeps_lapsed head past stamp (Client c) (Pins name) ok h = kept_lapsed past stamp c (Pins name) (λ d. refl) (pins_held past stamp c name)
-keeps_lapsed head past stamp (Client c) (Unpins name) ok h = kept_lapsed past stamp c (Unpins name) (λ d. refl) (unpins_held past stamp c name)
-keeps_lapsed head past stamp (Client c) (Marks name) ok h = kept_lapsed past stamp c (Marks name) (λ d. refl) (marks_held past stamp c name)
-keeps_lapsed head past stamp (Client c) (Unmarks t) ok h = kept_lapsed past stamp c (Unmarks t) (λ d. refl) (unmarks_held past stamp c t)
-keeps_lapsed head past stamp (Client c) (Knows t boot) ok h = knows_lapsed past stamp c t boot ok
-keeps_lapsed head past stamp (Target t) (Heard u f r) ok h = absurd ok
-keeps_lapsed head past stamp (Target t) (Drop u lock) ok h = absurd ok
-keeps_lapsed head past stamp (Target t) (Knows u boot) ok h = absurd ok
-keeps_lapsed head past stamp node e ok h = λ d l g x. x
+module _ (head : Head) (past : List Line) (stamp : Stamp) (h : HoldsAt head past) where
+  -- by a line that gives no locks
+  abbrev OverBy : Node → Entry → Type 0
+  OverBy node e = Stays head.osts head.clients past (line (turn stamp node) e ∷ past)
+
+  dead_by : (node : Node) (e : Entry) → OverBy node e → StaysDead past (line (turn stamp node) e ∷ past)
+  dead_by node e s = stays_dead head.osts head.clients past (line (turn stamp node) e ∷ past) s h.phase.client h.locks
+
+  lapsed_by : (node : Node) (e : Entry) → OverBy node e → StaysLapsed past (line (turn stamp node) e ∷ past)
+  lapsed_by node e s = stays_lapsed head.osts head.clients past (line (turn stamp node) e ∷ past) s h.phase.client h.locks
+
+  -- those by which what is held, hoped for or known changes
+  over_stays : (c : ℕ) (e : Entry) → EntryOf head past (turn stamp (Client c)) (Client c) e → OverBy (Client c) e ⊎ (StaysDead past (line (turn stamp (Client c)) e ∷ past) × StaysLapsed past (line (turn stamp (Client c)) e ∷ past))
+  over_stays c (Heard t f r) ok = inl (heard_stays head past stamp c t f r ok h)
+  over_stays c (Hold t lock marked size seen) ok = inl (holds_stay head past stamp c t lock marked size seen ok h)
+  over_stays c (Drop t lock) ok = inl (drops_stay head.osts head.clients past stamp c h.phase.client h.locks t lock ok)
+  over_stays c (Pins name) ok = inl (pins_stays head.osts head.clients past stamp c h.phase.client h.locks name)
+  over_stays c (Unpins name) ok = inl (unpins_stays head.osts head.clients past stamp c h.phase.client h.locks name)
+  over_stays c (Marks name) ok = inl (marks_stays head.osts head.clients past stamp c h.phase.client h.locks name)
+  over_stays c (Unmarks t) ok = inl (unmarks_stays head.osts head.clients past stamp c h.phase.client h.locks t)
+  over_stays c (Knows t boot) ok = inl (knows_stays head.osts head.clients past stamp c t boot ok h.phase.client h.locks)
+  over_stays c e ok = inr (λ d l g x. x, λ d l g x. x)
+
+  pub keeps_dead : (node : Node) (e : Entry) → EntryOf head past (turn stamp node) node e → StaysDead past (line (turn stamp node) e ∷ past)
+  keeps_dead (Client c) e ok = ⊎_elim (λ (s : OverBy (Client c) e). dead_by (Client c) e s) (λ (k : StaysDead past (line (turn stamp (Client c)) e ∷ past) × StaysLapsed past (line (turn stamp (Client c)) e ∷ past)). k.0) (over_stays c e ok)
+  keeps_dead (Target t) (Heard u f r) ok = absurd ok
+  keeps_dead (Target t) (Hold u lock marked size seen) ok = absurd ok
+  keeps_dead (Target t) (Drop u lock) ok = absurd ok
+  keeps_dead (Target t) (Knows u boot) ok = absurd ok
+  keeps_dead (Target t) e ok = λ d l g x. x
+
+  pub keeps_lapsed : (node : Node) (e : Entry) → EntryOf head past (turn stamp node) node e → StaysLapsed past (line (turn stamp node) e ∷ past)
+  keeps_lapsed (Client c) e ok = ⊎_elim (λ (s : OverBy (Client c) e). lapsed_by (Client c) e s) (λ (k : StaysDead past (line (turn stamp (Client c)) e ∷ past) × StaysLapsed past (line (turn stamp (Client c)) e ∷ past)). k.1) (over_stays c e ok)
+  keeps_lapsed (Target t) (Heard u f r) ok = absurd ok
+  keeps_lapsed (Target t) (Hold u lock marked size seen) ok = absurd ok
+  keeps_lapsed (Target t) (Drop u lock) ok = absurd ok
+  keeps_lapsed (Target t) (Knows u boot) ok = absurd ok
+  keeps_lapsed (Target t) e ok = λ d l g x. x
+
+-- ---- at the start
 
 pub locks_start : (osts clients : ℕ) → Locks osts clients []
 locks_start osts clients =
     record {
       whose = λ d l g. absurd g.0;
-      readers = λ d l g. absurd g.0;
-      cookies = λ d l g. absurd g.0;
+      kinds = λ d l g. absurd g.0;
+      promoted = λ l p. absurd p;
+      bare = λ d k a. absurd a;
+      cookies = λ d k a. absurd a;
       greatest = (omega arith, omega arith);
-      low = λ v d l g. absurd g.0;
+      low = λ v d k a. absurd a;
+      named = λ d e k a. absurd a;
       once = λ d e l k g. absurd g.0;
       granted = λ l i. absurd i;
+      apart = λ k l i. absurd i;
+      waits = λ l i. absurd i;
       held = λ c k i. absurd i;
       alive = λ d l g. absurd g.0;
+      kin = λ d e l k g. absurd g.0;
       shown = λ v u l i. absurd i;
+      single = λ who k. omega arith;
+      awaits = λ who k lt. absurd (omega arith);
       blocks = λ from c who boot cookie w. absurd w;
       cancels = λ from to who boot cookie w. absurd w;
       gone = λ who cookie w. absurd w;
+      notices = λ from to g w. absurd w;
+      relocks = λ from to r w. absurd w;
+      brought = λ v l i. absurd i;
     }

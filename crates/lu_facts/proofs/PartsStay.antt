@@ -34,7 +34,9 @@ use Rattle.lu_target_rows.specs.Windows.{has_number}
 use Rattle.lu_covered.specs.TargetCloses.{kept_numbers, is_lost, loses}
 use Rattle.lu_covered.specs.Heads.{Head}
 use Rattle.lu_guards.proofs.Guards.{In}
+use Rattle.lu_guards.proofs.ClientLines.{IsNames}
 use Rattle.lu_facts.proofs.Groups.{turn, Acted, IsMade, Stands, ItemOk, AllItems, forgetting, items_of, History, HoldsAt}
+use Rattle.lu_facts.proofs.HistoryLines.{names_or, meet_none}
 use Rattle.lu_facts.proofs.ItemLists.{same_forgot, pick_same, in_seen}
 use Rattle.lu_facts.proofs.OverItems.{item_in, over_now}
 use Rattle.lu_facts.proofs.FactsStay.{IsSound, sound_empty, sound_after, sound_forget}
@@ -149,7 +151,10 @@ module _ (osts : ℕ) (past : List Line) (keep : ℕ → Bool) (k : Closed osts 
   clear_by : (is : List Item) → AllItems osts past is → (p : Part) → ((e : Deed) → Acted past e → IsMade e → Stands osts past e → keep e.reply.txn.0 ≡ false → Apart e.writes p) → Clear osts empty keep is p
   clear_by [] all p h = tt
   clear_by (Acts a ∷ is) all p h = (
-    λ gone. subst (λ (ws : List Part). Apart ws p) all.0.wrote (h all.0.deed all.0.acted all.0.made all.0.stands (ap (λ (x : Operation). keep x.number.0) all.0.operates ∙ gone)),
+    λ gone. ⊎_elim
+        (λ (names : IsNames a.op). subst (λ (ws : List Part). Apart ws p) (all.0.wrote names) (h all.0.deed all.0.acted all.0.made all.0.stands (ap (λ (x : Operation). keep x.number.0) all.0.operates ∙ gone)))
+        (λ (none : writes osts (contents osts empty is) a ≡ []). subst (λ (ws : List Part). Apart ws p) (sym none) tt)
+        (names_or osts (contents osts empty is) a.number a.who a.op),
     clear_by is all.1 p h,
   )
   clear_by (Forgets who ∷ is) all p h = clear_by is all p h
@@ -199,12 +204,18 @@ module _ (osts clients : ℕ) (past : List Line) (h : History osts clients past)
       number : all.0.deed.reply.txn.0 ≡ a.number.0
       number = ap (λ (x : Operation). x.number.0) all.0.operates
 
-      own : meet ws ps ≡ true → (a.number.0 ≤ (server_of osts past).committed.0) ⊎ In a.number.0 (seen_in ps (server_of osts past).log)
-      own m =
+      own_names : IsNames a.op → meet ws ps ≡ true → (a.number.0 ≤ (server_of osts past).committed.0) ⊎ In a.number.0 (seen_in ps (server_of osts past).log)
+      own_names names m =
           ⊎_elim
-          (λ (j : In all.0.deed (server_of osts past).log). inr (subst (λ (x : ℕ). In x (seen_in ps (server_of osts past).log)) number (in_seen ps (server_of osts past).log all.0.deed j (ap (λ (x : List Part). meet x ps) all.0.wrote ∙ m))))
+          (λ (j : In all.0.deed (server_of osts past).log). inr (subst (λ (x : ℕ). In x (seen_in ps (server_of osts past).log)) number (in_seen ps (server_of osts past).log all.0.deed j (ap (λ (x : List Part). meet x ps) (all.0.wrote names) ∙ m))))
           (λ (le : all.0.deed.reply.txn.0 ≤ (server_of osts past).committed.0). inl (omega (arith, le, number)))
           (h.logged all.0.deed all.0.acted all.0.made all.0.stands)
+
+      own : meet ws ps ≡ true → (a.number.0 ≤ (server_of osts past).committed.0) ⊎ In a.number.0 (seen_in ps (server_of osts past).log)
+      own m = ⊎_elim
+          (λ (names : IsNames a.op). own_names names m)
+          (λ (none : writes osts (contents osts empty is) a ≡ []). absurd (let out = ap (λ (x : List Part). meet x ps) none ∙ meet_none ps in cc))
+          (names_or osts (contents osts empty is) a.number a.who a.op)
 
       Known : Type 0
       Known = (n ≤ (server_of osts past).committed.0) ⊎ In n (seen_in ps (server_of osts past).log)

@@ -16,6 +16,7 @@ use Rattle.lu_covered.specs.ClientStates.{life_of, known_of, standing_of}
 use Rattle.lu_covered.specs.Heads.{Head}
 use Rattle.lu_guards.proofs.StoryGuards.{BootKnownOk, ServesOk, LifeOf, EntryOf}
 use Rattle.lu_facts.proofs.Groups.{turn, Phase, Done, Boots, HoldsAt}
+use Rattle.lu_facts.proofs.ObjectDeeds.{makes}
 
 pub phase_start : (osts : ℕ) → Phase osts []
 phase_start osts =
@@ -123,7 +124,7 @@ keeps_phase head past stamp (Target t) (Made d) ok h =
       closed = p.closed;
       under = p.under;
       low = p.low;
-      count = let n = ok.numbers in omega arith;
+      count = let n = (makes head.osts past (turn stamp (Target t)) t d ok).room in omega arith;
       least = p.least;
       known = p.known;
       served = p.served;

@@ -130,6 +130,8 @@ module _ (head : Head) (past : List Line) (stamp : Stamp) (t : ℕ) (h : HoldsAt
         wishes_rise = h.recovers.wishes_rise;
         holds = h.recovers.holds;
         bare = h.recovers.bare;
+        told_as = h.recovers.told_as;
+        later = h.recovers.later;
         hears = λ at c u f k q i. absurd i;
       }
     where
@@ -159,6 +161,8 @@ module _ (head : Head) (past : List Line) (stamp : Stamp) (t : ℕ) (h : HoldsAt
         wishes_rise = h.recovers.wishes_rise;
         holds = h.recovers.holds;
         bare = h.recovers.bare;
+        told_as = h.recovers.told_as;
+        later = h.recovers.later;
         hears = λ at c u f k q i. absurd i;
       }
     where
@@ -194,11 +198,13 @@ module _ (head : Head) (past : List Line) (stamp : Stamp) (t : ℕ) (h : HoldsAt
         wishes_rise = h.recovers.wishes_rise;
         holds = h.recovers.holds;
         bare = h.recovers.bare;
+        told_as = h.recovers.told_as;
+        later = h.recovers.later;
         hears = λ at c u f k q i. absurd i;
       }
     where
       from_nothing : NothingOf past said.who → Worded past said.who 0 0 []
-      from_nothing n = (ap length (sym n.0), sym n.1, λ e. subst (λ (ks : List Lock). length ks ≤ 0) (sym (n.3 e)) (omega arith))
+      from_nothing n = (ap length (sym n.0), sym n.1, subst (λ (ks : List Lock). length ks ≤ 0) (sym n.3) (omega arith))
 
       said_it : KeepsOk head past (turn stamp (Target t)) t ok.from (message.Word said.who ok.boot said.replays said.locks said.seen) said.who ok.boot ⊎ ((said ≡ empty_word said.who) × KeepsOk head past (turn stamp (Target t)) t ok.from (message.Join said.who ok.boot) said.who ok.boot)
           → (said.who ≡ said.who) × HasSlot head.clients past said.who × ((server_of head.osts past).boot ≤ known_of said.who.client past) × Worded past said.who said.replays said.locks said.seen
@@ -229,6 +235,8 @@ module _ (head : Head) (past : List Line) (stamp : Stamp) (t : ℕ) (h : HoldsAt
         wishes_rise = each_wish who (wishes_of past) h.recovers.wishes_rise;
         holds = h.recovers.holds;
         bare = h.recovers.bare;
+        told_as = h.recovers.told_as;
+        later = h.recovers.later;
         hears = λ at c u f k q i. absurd i;
       }
     where

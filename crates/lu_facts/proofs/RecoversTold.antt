@@ -24,8 +24,8 @@ use Rattle.lu_guards.proofs.CloseLists.{OneEach}
 use Rattle.lu_guards.proofs.Guards.{In, Was, HeardNow}
 use Rattle.lu_guards.proofs.StoryGuards.{IsRecovering, SendOf, locks_told}
 use Rattle.lu_guards.proofs.Lists.{own_is, empty_list}
-use Rattle.lu_facts.proofs.Groups.{Flew, HeardAs, Acted, HasSlot, Phase, Lives, boot_told, who_told, ReplayedRise, BroughtRise, Replays, Relocks, Worded, NothingOf, ToldIn, Recovers, HoldsAt}
-use Rattle.lu_facts.proofs.Keeps.{heard_flew}
+use Rattle.lu_facts.proofs.Groups.{Flew, HeardAs, told_of, Gave, HasSlot, Phase, Lives, boot_told, who_told, ReplayedRise, BroughtRise, Replays, Relocks, Worded, NothingOf, ToldIn, Recovers, HoldsAt}
+use Rattle.lu_facts.proofs.Keeps.{heard_flew, saw_flew}
 
 -- ---- who doesn't know the boot of a target that recovers
 
@@ -58,29 +58,29 @@ pub record Leaves (osts clients : ℕ) (past new : List Line) : Type 0 where
   pub life : (c : ℕ) → (life_of c past).life ≤ (life_of c new).life
   pub kept : IsRecovering osts past → (who : Who) → HasSlot clients past who → (server_of osts past).boot ≤ known_of who.client past → kept_of who new ≡ kept_of who past
   pub heard : IsRecovering osts past → (who : Who) → HasSlot clients past who → (server_of osts past).boot ≤ known_of who.client past → (f : Flight) (r : ReplyTo) → HeardAs new who f r → HeardAs past who f r
-  pub locks : IsRecovering osts past → (who : Who) → HasSlot clients past who → (server_of osts past).boot ≤ known_of who.client past → life_of who.client new ≡ who → (life_of who.client past ≡ who) × (locks_told who.client new ≡ locks_told who.client past)
-  pub acted : (d : Deed) → Acted past d → Acted new d
+  pub locks : IsRecovering osts past → (who : Who) → HasSlot clients past who → (server_of osts past).boot ≤ known_of who.client past → told_of who new ≡ told_of who past
+  pub gave : (d : Deed) (l : Lock) → Gave past d l → Gave new d l
 
 module _ (osts clients : ℕ) (past new : List Line) (s : Leaves osts clients past new) (off : IsRecovering osts past) (who : Who) (has : HasSlot clients past who) (knows : (server_of osts past).boot ≤ known_of who.client past) where
   kept_still : kept_of who new ≡ kept_of who past
   kept_still = s.kept off who has knows
 
-  locks_still : life_of who.client new ≡ who → (life_of who.client past ≡ who) × (locks_told who.client new ≡ locks_told who.client past)
+  locks_still : told_of who new ≡ told_of who past
   locks_still = s.locks off who has knows
 
   pub worded_still : (replays locks : ℕ) (seen : List ℕ) → Worded past who replays locks seen → Worded new who replays locks seen
   worded_still replays locks seen w =
-      (w.0 ∙ ap (λ (k : Kept). length k.replays) (sym kept_still), w.1 ∙ ap (λ (k : Kept). k.seen) (sym kept_still), λ e. let l = locks_still e in subst (λ (ks : List Lock). length ks ≤ locks) (sym l.1) (w.2 l.0))
+      (w.0 ∙ ap (λ (k : Kept). length k.replays) (sym kept_still), w.1 ∙ ap (λ (k : Kept). k.seen) (sym kept_still), subst (λ (ks : List Lock). length ks ≤ locks) (sym locks_still) w.2)
 
   pub nothing_still : NothingOf past who → NothingOf new who
-  nothing_still n = (ap (λ (k : Kept). k.replays) kept_still ∙ n.0, ap (λ (k : Kept). k.seen) kept_still ∙ n.1, λ f r i. n.2 f r (s.heard off who has knows f r i), λ e. let l = locks_still e in l.1 ∙ n.3 l.0)
+  nothing_still n = (ap (λ (k : Kept). k.replays) kept_still ∙ n.0, ap (λ (k : Kept). k.seen) kept_still ∙ n.1, λ f r i. n.2 f r (s.heard off who has knows f r i), locks_still ∙ n.3)
 
 pub replays_still : (osts clients : ℕ) (past new : List Line) → Leaves osts clients past new → IsRecovering osts past → (r : Replayed) → HasSlot clients past r.who → (server_of osts past).boot ≤ known_of r.who.client past → Replays past r → Replays new r
 replays_still osts clients past new s off r has knows h = (h.0, subst (λ (k : Kept). In h.0 k.replays) (sym (s.kept off r.who has knows)) h.1, h.2)
 
 pub relocks_still : (osts clients : ℕ) (past new : List Line) → Leaves osts clients past new → IsRecovering osts past → (l : Lock) → HasSlot clients past l.ask.who → (server_of osts past).boot ≤ known_of l.ask.who.client past → Relocks past l → Relocks new l
 relocks_still osts clients past new s off l has knows h =
-    ((h.0.0, (s.acted h.0.0 h.0.1.0, h.0.1.1), h.0.2), λ e. let q = s.locks off l.ask.who has knows e in subst (λ (ks : List Lock). In l ks) (sym q.1) (h.1 q.0))
+    ((h.0.0, s.gave h.0.0 l h.0.1, h.0.2), subst (λ (ks : List Lock). In l ks) (sym (s.locks off l.ask.who has knows)) h.1)
 
 -- so what it told stays true
 pub told_still : (osts clients : ℕ) (past new : List Line) → Leaves osts clients past new → IsRecovering osts past → (m : Message) → HasSlot clients past (who_told m) → (server_of osts past).boot ≤ known_of (who_told m).client past → ToldIn past m → ToldIn new m
@@ -112,8 +112,10 @@ module _ (osts clients : ℕ) (past new : List Line) (s : Leaves osts clients pa
     pub brought : brought_of new ≡ brought_of past
     pub words : words_of new ≡ words_of past
     pub wishes : wishes_of new ≡ wishes_of past
-    pub holds : IsRecovering osts new → (c : ℕ) → (server_of osts new).boot ≤ known_of c new → (x : HeldLock) → In x (held_at c new) → In x.lock (locks_told c new)
-    pub bare : (c : ℕ) → standing_of c new ≡ Joining → locks_told c new ≡ []
+    pub holds : IsRecovering osts new → (c : ℕ) → (server_of osts new).boot ≤ known_of c new → (x : HeldLock) → In x (held_at c new) → In x.lock (told_of (life_of c new) new)
+    pub bare : (c : ℕ) → standing_of c new ≡ Joining → told_of (life_of c new) new ≡ []
+    pub told_as : (c : ℕ) → locks_told c new ≡ told_of (life_of c new) new
+    pub later : (who : Who) → (life_of who.client new).life < who.life → told_of who new ≡ []
     pub hears : (at : At) (c t : ℕ) (f : Flight) (r : ReplyTo) → at.node ≡ Client c → HeardNow new at t f r → known_of c new ≤ closed_of new
 
   pub recovers_still : Quiet → Recovers osts clients new
@@ -140,6 +142,8 @@ module _ (osts clients : ℕ) (past new : List Line) (s : Leaves osts clients pa
         wishes_rise = subst (λ (ws : List Who). OneEach ws) (sym q.wishes) h.wishes_rise;
         holds = q.holds;
         bare = q.bare;
+        told_as = q.told_as;
+        later = q.later;
         hears = q.hears;
       }
 
@@ -161,9 +165,9 @@ joins_holds head past h c j = empty_list (held_at c past) none
 pub joins_nothing : (head : Head) (past : List Line) → HoldsAt head past → (c : ℕ) → standing_of c past ≡ Joining → NothingOf past (life_of c past)
 joins_nothing head past h c j = (
   empty_list (kept_of (life_of c past) past).replays (λ k i. let p = h.keeps.kept_replay (life_of c past) k i in joins_heard head past h c j p.0 p.1 p.2),
-  empty_list (kept_of (life_of c past) past).seen (λ n i. let p = h.keeps.kept_seen (life_of c past) n i in joins_heard head past h c j p.0 p.1 p.2),
+  empty_list (kept_of (life_of c past) past).seen (λ n i. let f = saw_flew head.osts head.clients past h.done h.keeps (life_of c past) n (h.keeps.kept_seen (life_of c past) n i) in h.lives.silent c j f.0 f.1),
   joins_heard head past h c j,
-  λ e. subst (λ v. locks_told v past ≡ []) (sym (h.phase.client c)) (h.recovers.bare c j),
+  h.recovers.bare c j,
 )
 
 -- a lock that is held is one that was held when the client was told the boot
@@ -171,8 +175,7 @@ pub holds_told : (head : Head) (past : List Line) → HoldsAt head past → IsRe
 holds_told head past h off c le x i =
     let g = h.locks.held c x i in
     let own : x.lock.ask.who ≡ life_of c past = h.locks.whose g.deed x.lock g.gave ∙ g.who in
-    let client : x.lock.ask.who.client ≡ c = ap (λ (w : Who). w.client) own ∙ h.phase.client c in
-    (((g.deed, g.gave, sym (h.locks.whose g.deed x.lock g.gave)), λ e. subst (λ v. In x.lock (locks_told v past)) (sym client) (h.recovers.holds off c le x i)), own)
+    (((g.deed, g.gave, sym (h.locks.whose g.deed x.lock g.gave)), subst (λ (w : Who). In x.lock (told_of w past)) (sym own) (h.recovers.holds off c le x i)), own)
 
 pub sent_told : (head : Head) (past : List Line) (node to : Node) (m : Message) → SendOf head past node to m → HoldsAt head past → IsRecovering head.osts past → (server_of head.osts past).boot ≤ boot_told m → ToldIn past m
 sent_told head past (Client c) (Target t) (message.Replay r) ok h off le = (ok.replay, ok.kept, ok.is)
@@ -180,8 +183,8 @@ sent_told head past (Client c) (Target t) (message.Lock r) ok h off le =
     let q = holds_told head past h off c (let e = ok.tells.of_boot in omega (arith, e, le)) ok.holding ok.held in
     (ok.holding.lock, q.0, q.1 ∙ sym ok.tells.of_life, ok.is)
 sent_told head past (Client c) (Target t) (message.Word who boot replays locks seen) ok h off le =
-    let client : who.client ≡ c = ap (λ (w : Who). w.client) ok.tells.of_life ∙ h.phase.client c in
-    (ok.of_replays, ok.of_seen, λ e. subst (λ v. length (locks_told v past) ≤ locks) (sym client) (let is = ok.of_locks in let le = ok.whole in omega (arith, is, le)))
+    let told : locks_told c past ≡ told_of who past = h.recovers.told_as c ∙ ap (λ (w : Who). told_of w past) (sym ok.tells.of_life) in
+    (ok.of_replays, ok.of_seen, subst (λ (ks : List Lock). length ks ≤ locks) told (let is = ok.of_locks in let le = ok.whole in omega (arith, is, le)))
 sent_told head past (Client c) (Target t) (message.Join who boot) ok h off le = subst (NothingOf past) (sym ok.of_life) (joins_nothing head past h c ok.joins)
 sent_told head past (Client c) (Client d) m ok h off le = absurd ok
 sent_told head past (Target t) (Target u) m ok h off le = absurd ok

@@ -7,7 +7,6 @@ use Rattle.lu_base.specs.declared.ids.Node.{Node}
 use Rattle.lu_base.specs.declared.ids.Node.TheVariants.{Client, Target}
 use Rattle.lu_base.specs.declared.ids.Stamp.{Stamp}
 use Rattle.lu_base.specs.declared.ids.Who.{Who}
-use Rattle.lu_base.specs.declared.locks.Lock.{Lock}
 use Rattle.lu_base.specs.declared.locks.Policy.{Policy}
 use Rattle.lu_base.specs.declared.locks.Policy.TheVariants.{Bits, Range}
 use Rattle.lu_msg.specs.declared.calls.Call.{Call}
@@ -16,7 +15,7 @@ use Rattle.lu_msg.specs.declared.messages.Reply.{Reply as ReplyTo}
 use Rattle.lu_msg.specs.declared.operations.Op.{Op}
 use Rattle.lu_msg.specs.declared.operations.Op.TheVariants as op
 use Rattle.lu_held.specs.declared.locks.Use.{Use}
-use Rattle.lu_words.specs.Carried.{Deed, HandleFile, Flight, Answered, Stage, Plain, Enqueued, Came, Sizes, Work, Running}
+use Rattle.lu_words.specs.Carried.{Deed, HandleFile, Flight, Answered, Stage, Plain, Enqueued, Gets, Sizes, Work, Running}
 use Rattle.lu_words.specs.Words.{Entry, Tick, Queues, Heard, Life, Line, line}
 use Rattle.lu_words.specs.Concerns.{only}
 use Rattle.lu_client_rows.specs.Advances.{enqueue_of}
@@ -24,15 +23,15 @@ use Rattle.lu_covered.specs.Calls.{errand, call_at, life_at, operation_of}
 use Rattle.lu_covered.specs.Imports.{flights_at}
 use Rattle.lu_covered.specs.ClientStates.{flights_of, life_of}
 use Rattle.lu_covered.specs.Heads.{Head}
-use Rattle.lu_guards.proofs.Guards.{In, Ending, SizesSoFar, SizesStand, LockStand, StatStand, StandsOk, EntryOk}
+use Rattle.lu_guards.proofs.Guards.{In, Ending, SizesStand, LockStand, StatStand, GetStand, FlushStand, MovedStand, StandsOk, EntryOk}
 use Rattle.lu_guards.proofs.StoryGuards.{HeardOk}
 use Rattle.lu_guards.proofs.Grown.{Grown}
 use Rattle.lu_guards.proofs.Lists.{self}
 use Rattle.lu_guards.proofs.ClientLines.{IsNames, IsSize, IsLock, IsAskedOf, flights_asked}
 use Rattle.lu_guards.proofs.Parts.{flights_now, life_is_of}
-use Rattle.lu_facts.proofs.Groups.{turn, Flew, Acted, HoldsAt, CallOf, Asks, Upto, Since, IsLocking, AnswersFor, Replied, Replies}
+use Rattle.lu_facts.proofs.Groups.{turn, Flew, Acted, HoldsAt, CallOf, Asks, Upto, Since, IsWorking, IsPage, AnswersFor, Replied, Replies}
 use Rattle.lu_facts.proofs.Lines.{AtEach, only_more}
-use Rattle.lu_facts.proofs.Asks.{plain_errand, sizes_errand, locks_errand, stages_errand}
+use Rattle.lu_facts.proofs.Asks.{AsksFor, plain_errand, sizes_errand, locks_errand, stages_errand}
 use Rattle.lu_facts.proofs.Calls.{Began, Touches, Touched, Stood, call_cases}
 use Rattle.lu_facts.proofs.Endings.{reply_ends_none}
 
@@ -57,14 +56,25 @@ flew_op head past who f d h i a w x =
     let same : f ≡ g.0 = h.numbers.one who f g.0 (h.numbers.flying who f i) (subst (λ v. Flew past v g.0) w g.1) (omega arith) in
     ap (λ (v : Flight). v.op) same ∙ g.3
 
--- what is on names doesn't ask how long an object is
-neither : (o : Op) → IsNames o → IsSize o → ⊥
-neither (op.Size resource) n s = n
-neither o n s = s
+-- what is asked for on an object isn't on names
+on_object : (t : ℕ) (o : Op) → IsAskedOf t o → IsSize o ⊎ IsLock o ⊎ IsPage o → (0 < t) × (IsSize o ⊎ IsLock o ⊎ IsPage o)
+on_object t o (inr a) k = (a.0, k)
+on_object t o (inl a) k = absurd (by o a.1 k)
+  where
+    by : (o : Op) → IsNames o → IsSize o ⊎ IsLock o ⊎ IsPage o → ⊥
+    by (op.Size resource) n k = n
+    by (op.Enqueue resource mode extent) n k = n
+    by (op.Get resource cookie page) n k = n
+    by (op.Put resource cookie offset bytes) n k = n
+    by (op.Cut resource cookie size) n k = n
+    by o n (inl k) = k
+    by o n (inr (inl k)) = k
+    by o n (inr (inr k)) = k
 
-no_names : (p : Policy) (wanted : Use) → IsNames (elim p [ Range extent ↦ op.Enqueue wanted.resource wanted.mode extent | Bits bits ↦ op.Size wanted.resource ]) → ⊥
-no_names (Range extent) wanted n = n
-no_names (Bits bits) wanted n = n
+-- the lock on a range, or the size where none is wanted
+wanted_kind : (p : Policy) (wanted : Use) → IsSize (elim p [ Range extent ↦ op.Enqueue wanted.resource wanted.mode extent | Bits bits ↦ op.Size wanted.resource ]) ⊎ IsLock (elim p [ Range extent ↦ op.Enqueue wanted.resource wanted.mode extent | Bits bits ↦ op.Size wanted.resource ])
+wanted_kind (Range extent) wanted = inr tt
+wanted_kind (Bits bits) wanted = inl tt
 
 -- what a call asked, that waits for the answer
 call_op : (head : Head) (past : List Line) (c t slot : ℕ) (f : Flight) (r : Running) → Grown head past → In f (flights_at c t past) → CallOf past c t f.slot f.op → f.slot ≡ Some slot
@@ -73,25 +83,28 @@ call_op head past c t slot f r g i k s w =
     let q = subst (λ (v : Option ℕ). CallOf past c t v f.op) s k in
     let x : Some q.0 ≡ Some r = sym q.1 ∙ w in
     let same : q.0 ≡ r = cc in
-    subst (λ (v : Running). AnswersFor v t f.op) same (by q.0 q.3 (stages_errand q.0 (record { target = t; op = f.op }) q.3))
+    subst (λ (v : Running). AnswersFor v t f.op) same (asks q.0 q.3)
   where
-    sized : IsAskedOf t f.op → IsSize f.op → 0 < t
-    sized (inl a) is = absurd (neither f.op a.1 is)
-    sized (inr a) is = a.0
+    asked : IsAskedOf t f.op
+    asked = flights_asked head c t past g f i
 
-    object : IsAskedOf t f.op → (wanted : Use) → f.op ≡ enqueue_of wanted → (0 < t) × (IsSize f.op ⊎ IsLock f.op)
-    object (inl a) wanted is = absurd (no_names wanted.policy wanted (subst IsNames is a.1))
-    object (inr a) wanted is = a
+    works : (v : Running) (stage : Stage) → v.stage ≡ stage → IsWorking stage → IsSize f.op ⊎ IsLock f.op ⊎ IsPage f.op → AnswersFor v t f.op
+    works v stage e on k = inr (subst IsWorking (sym e) on, inl (on_object t f.op asked k))
 
     by : (v : Running) → errand v ≡ Some (record { target = t; op = f.op }) → (v.stage ≡ Plain) ⊎ ((y : Work) × (v.stage ≡ Sizes y)) ⊎ ((y : Work) × (v.stage ≡ Enqueued y)) → AnswersFor v t f.op
     by v e (inl plain) = let m = plain_errand v t f.op plain e in inl (plain, m.0, m.1)
-    by v e (inr (inl (y, sizes))) =
-        let is : IsSize f.op = subst IsSize (sym (sizes_errand v y t f.op sizes e).of_op) tt in
-        inr (inl (y, sizes, sized (flights_asked head c t past g f i) is, is))
+    by v e (inr (inl (y, sizes))) = works v (Sizes y) sizes tt (inl (subst IsSize (sym (sizes_errand v y t f.op sizes e).of_op) tt))
     by v e (inr (inr (y, locks))) =
         let k = locks_errand v y t f.op locks e in
-        let a = object (flights_asked head c t past g f i) k.wanted k.of_op in
-        inr (inr (subst IsLocking (sym locks) tt, inl (a.0, a.1)))
+        works v (Enqueued y) locks tt
+        (⊎_elim
+        (λ (size : IsSize (enqueue_of k.wanted)). inl (subst IsSize (sym k.of_op) size))
+        (λ (lock : IsLock (enqueue_of k.wanted)). inr (inl (subst IsLock (sym k.of_op) lock)))
+        (wanted_kind k.wanted.policy k.wanted))
+
+    asks : (v : Running) → AsksFor v t f.op → AnswersFor v t f.op
+    asks v (inl e) = by v e (stages_errand v (record { target = t; op = f.op }) e)
+    asks v (inr k) = works v (Gets k.work) k.stage tt (inr (inr (subst IsPage (sym k.of_op) tt)))
 
 -- the call whose request's reply is heard
 heard_replied : (head : Head) (past : List Line) (d u slot : ℕ) (f : Flight) (k : ReplyTo) (before : Running) → Grown head past → (Ending past d → ⊥) → HeardOk (only u past) d f k → HoldsAt head (only u past) → Asks past
@@ -126,43 +139,46 @@ replied_as past c q r t k a asked h =
 
 answers_as : (q r : Running) (t : ℕ) → q.call ≡ r.call → q.file ≡ r.file → q.stage ≡ r.stage → (o : Op) → AnswersFor q t o → AnswersFor r t o
 answers_as q r t s i n o (inl a) = inl (sym n ∙ a.0, a.1, ap (λ (v : Call). operation_of r.file v) (sym s) ∙ ap (λ (v : Option HandleFile). operation_of v q.call) (sym i) ∙ a.2)
-answers_as q r t s i n o (inr (inl a)) = inr (inl (a.0, sym n ∙ a.1, a.2, a.3))
-answers_as q r t s i n o (inr (inr (on, inl a))) = inr (inr (subst IsLocking n on, inl a))
-answers_as q r t s i n o (inr (inr (on, inr a))) = inr (inr (subst IsLocking n on, inr (a.0, ap (λ (v : Call). operation_of r.file v) (sym s) ∙ ap (λ (v : Option HandleFile). operation_of v q.call) (sym i) ∙ a.1)))
+answers_as q r t s i n o (inr (on, inl a)) = inr (subst IsWorking n on, inl a)
+answers_as q r t s i n o (inr (on, inr a)) = inr (subst IsWorking n on, inr (a.0, ap (λ (v : Call). operation_of r.file v) (sym s) ∙ ap (λ (v : Option HandleFile). operation_of v q.call) (sym i) ∙ a.1))
 
--- a glimpse that was answered goes on
-sizes_on : (past : List Line) (at : At) (q r : Running) (sizes : List ℕ) (w : Work) (t : ℕ) (k : ReplyTo) → SizesSoFar past at q sizes → q.asking ≡ Answered t k → r.stage ≡ Sizes w → (o : Op)
-    → AnswersFor q t o → AnswersFor r t o
-sizes_on past at q r sizes w t k (inl none) a is o asked = absurd (let b = none.new in cc)
-sizes_on past at q r sizes w t k (inr heard) a is o (inl asked) = absurd (let b = heard.stage in let plain = asked.0 in cc)
-sizes_on past at q r sizes w t k (inr heard) a is o (inr (inl asked)) = inr (inl (w, is, asked.2, asked.3))
-sizes_on past at q r sizes w t k (inr heard) a is o (inr (inr asked)) = absurd (subst IsLocking heard.stage asked.0)
+-- a call that was answered goes on with its work
+works_on : (q r : Running) (t : ℕ) → q.call ≡ r.call → q.file ≡ r.file → IsWorking r.stage → (o : Op) → AnswersFor q t o → AnswersFor r t o
+works_on q r t s i on o (inl asked) = inr (on, inr (asked.1, ap (λ (v : Call). operation_of r.file v) (sym s) ∙ ap (λ (v : Option HandleFile). operation_of v q.call) (sym i) ∙ asked.2))
+works_on q r t s i on o (inr (was, inl asked)) = inr (on, inl asked)
+works_on q r t s i on o (inr (was, inr asked)) = inr (on, inr (asked.0, ap (λ (v : Call). operation_of r.file v) (sym s) ∙ ap (λ (v : Option HandleFile). operation_of v q.call) (sym i) ∙ asked.1))
 
--- and so does a read, or a stat of a file
-locks_on : (q r : Running) (t : ℕ) → q.call ≡ r.call → q.file ≡ r.file → IsLocking r.stage → (o : Op) → AnswersFor q t o → AnswersFor r t o
-locks_on q r t s i locks o (inl asked) = inr (inr (locks, inr (asked.1, ap (λ (v : Call). operation_of r.file v) (sym s) ∙ ap (λ (v : Option HandleFile). operation_of v q.call) (sym i) ∙ asked.2)))
-locks_on q r t s i locks o (inr (inl asked)) = inr (inr (locks, inl (asked.2, inl asked.3)))
-locks_on q r t s i locks o (inr (inr (on, inl asked))) = inr (inr (locks, inl asked))
-locks_on q r t s i locks o (inr (inr (on, inr asked))) = inr (inr (locks, inr (asked.0, ap (λ (v : Call). operation_of r.file v) (sym s) ∙ ap (λ (v : Option HandleFile). operation_of v q.call) (sym i) ∙ asked.1)))
-
--- where it asks for a lock, or got one
-locking : (stage : Stage) (w : Work) (A B : Type 0) → ((stage ≡ Enqueued w) × A) ⊎ ((lock : Lock) × (stage ≡ Came w lock) × B) → IsLocking stage
-locking stage w A B (inl e) = subst IsLocking (sym e.0) tt
-locking stage w A B (inr e) = subst IsLocking (sym e.1) tt
-
-answers_on : (past : List Line) (at : At) (c slot : ℕ) (r : Running) (t : ℕ) (k : ReplyTo) (ok : StandsOk past at c slot r) → ok.running.asking ≡ Answered t k → (o : Op) → AnswersFor ok.running t o → AnswersFor r t o
-answers_on past at c slot r t k ok a = by ok.how
+stands_works : (past : List Line) (at : At) (c slot : ℕ) (r : Running) (ok : StandsOk past at c slot r) → IsWorking ok.stage
+stands_works past at c slot r ok = by ok.how
   where
-    stage_is : ok.stage ≡ r.stage
-    stage_is = ap (λ (v : Running). v.stage) (sym ok.is)
+    moved : MovedStand past at c ok.running ok.stage → IsWorking ok.stage
+    moved (inl s) = subst IsWorking (sym s.is) tt
+    moved (inr (inl s)) = subst IsWorking (sym s.is) tt
+    moved (inr (inr (inl s))) = subst IsWorking (sym s.is) tt
+    moved (inr (inr (inr (inl s)))) = subst IsWorking (sym s.is) tt
+    moved (inr (inr (inr (inr s)))) = subst IsWorking (sym s.is) tt
 
-    on : IsLocking ok.stage → (o : Op) → AnswersFor ok.running t o → AnswersFor r t o
-    on l = locks_on ok.running r t (ap (λ (v : Running). v.call) (sym ok.is)) (ap (λ (v : Running). v.file) (sym ok.is)) (subst IsLocking stage_is l)
+    sizes : (work : Work) (A : Type 0) → (ok.stage ≡ Sizes work) ⊎ ((ok.stage ≡ Enqueued work) × A) → IsWorking ok.stage
+    sizes work A (inl e) = subst IsWorking (sym e) tt
+    sizes work A (inr e) = subst IsWorking (sym e.0) tt
 
-    by : SizesStand past at ok.running ok.stage ok.pins ⊎ LockStand past c ok.running ok.stage ⊎ StatStand past at c ok.running ok.stage ok.pins → (o : Op) → AnswersFor ok.running t o → AnswersFor r t o
-    by (inl s) = sizes_on past at ok.running r s.sizes s.work t k s.so_far a (sym stage_is ∙ s.is)
-    by (inr (inl s)) = on (locking ok.stage s.work _ _ s.is)
-    by (inr (inr s)) = on (locking ok.stage s.work _ _ s.is)
+    by : SizesStand past at ok.running ok.stage ok.pins
+        ⊎ LockStand past c ok.running ok.stage
+        ⊎ StatStand past at c ok.running ok.stage ok.pins
+        ⊎ GetStand past c ok.running ok.stage ok.pins
+        ⊎ FlushStand past c ok.running ok.stage ok.pins
+        ⊎ ((ok.pins ≡ ok.running.pins) × MovedStand past at c ok.running ok.stage)
+        → IsWorking ok.stage
+    by (inl s) = sizes s.work _ s.is
+    by (inr (inl s)) = subst IsWorking (sym s.is) tt
+    by (inr (inr (inl s))) = subst IsWorking (sym s.is) tt
+    by (inr (inr (inr (inl s)))) = subst IsWorking (sym s.is) tt
+    by (inr (inr (inr (inr (inl s))))) = subst IsWorking (sym s.is) tt
+    by (inr (inr (inr (inr (inr s))))) = moved s.1
+
+answers_on : (past : List Line) (at : At) (c slot : ℕ) (r : Running) (t : ℕ) (ok : StandsOk past at c slot r) → (o : Op) → AnswersFor ok.running t o → AnswersFor r t o
+answers_on past at c slot r t ok =
+    works_on ok.running r t (ap (λ (v : Running). v.call) (sym ok.is)) (ap (λ (v : Running). v.file) (sym ok.is)) (subst IsWorking (ap (λ (v : Running). v.stage) (sym ok.is)) (stands_works past at c slot r ok))
 
 module _ (head : Head) (past : List Line) (g : Grown head past) (at : (t : ℕ) → HoldsAt head (only t past)) (asks : Asks past) (since : Since past) where
   touched_replied : (stamp : Stamp) (node : Node) (e : Entry) → EntryOk past (turn stamp node) node e → AtEach head past (turn stamp node) node e → (c slot target : ℕ) (r : Running) (reply : ReplyTo)
@@ -182,11 +198,11 @@ module _ (head : Head) (past : List Line) (g : Grown head past) (at : (t : ℕ) 
   touched_replied stamp node (Queues u w) ok of c slot target r reply q asking a = absurd (cc)
   touched_replied stamp node e ok of c slot target r reply q never a = absurd never
 
-  stood_replied : (now : At) (c slot target : ℕ) (r : Running) (reply : ReplyTo) → (q : Stood past now c slot r) → Replied past c q.before target reply → q.before.asking ≡ Answered target reply → Replied past c r target reply
-  stood_replied now c slot target r reply q k a =
+  stood_replied : (now : At) (c slot target : ℕ) (r : Running) (reply : ReplyTo) → (q : Stood past now c slot r) → Replied past c q.before target reply → Replied past c r target reply
+  stood_replied now c slot target r reply q k =
       let same : q.before ≡ q.stands.running = (let w : Some q.before ≡ Some q.stands.running = sym q.call ∙ q.stands.call in cc) in
       replied_as past c q.before r target reply q.at
-      (subst (λ (v : Running). (o : Op) → AnswersFor v target o → AnswersFor r target o) (sym same) (answers_on past now c slot r target reply q.stands (ap (λ (v : Running). v.asking) (sym same) ∙ a))) k
+      (subst (λ (v : Running). (o : Op) → AnswersFor v target o → AnswersFor r target o) (sym same) (answers_on past now c slot r target q.stands)) k
 
   pub keeps_replies : (stamp : Stamp) (node : Node) (e : Entry) → EntryOk past (turn stamp node) node e → AtEach head past (turn stamp node) node e → Replies past → Replies (line (turn stamp node) e ∷ past)
   keeps_replies stamp node e ok of h c slot target r reply k a =
@@ -197,6 +213,6 @@ module _ (head : Head) (past : List Line) (g : Grown head past) (at : (t : ℕ) 
       (λ (q : Began past (turn stamp node) e c slot r). let n = q.asking in absurd (cc))
       (⊎_elim
       (λ (q : Touched past node e c slot r). touched_replied stamp node e ok of c slot target r reply q q.asking a)
-      (λ (q : Stood past (turn stamp node) c slot r). stood_replied (turn stamp node) c slot target r reply q (h c slot target q.before reply q.call (q.asking ∙ a)) (q.asking ∙ a)))
+      (λ (q : Stood past (turn stamp node) c slot r). stood_replied (turn stamp node) c slot target r reply q (h c slot target q.before reply q.call (q.asking ∙ a))))
       p)
       (call_cases past stamp node e ok c slot r k))

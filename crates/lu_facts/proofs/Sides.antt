@@ -1,17 +1,13 @@
--- Where things are done, and between whom messages go: what a target does is in its story, and names it. The metadata target does operations
--- on names, and another one tells of an object that it has no bytes, or grants a lock to read it; that is also what each is asked for. Messages go
--- from clients to targets and back.
+-- Where things are done, and between whom messages go: what a target does is in its story, and names its turn, or, of a size that a holder said, that of the
+-- holder. The metadata target does operations on names, others do those on objects; that is also what each is asked for. Messages go from clients to targets
+-- and back.
 use Rattle.std.proofs.Common.{◌≡◌, ℕ, ◌<◌, Bool, true, List, [], ◌∷◌, Some, None, ◌⊎◌, inl, inr, ⊎_elim, refl, sym, subst, ap, ◌∙◌, arith}
-use Rattle.std.specs.Prelude.{if◌then◌else◌}
+use Rattle.std.specs.Prelude.{nat_eq, if◌then◌else◌}
 use Rattle.std.proofs.lemmas.Bool.{cond_both, eqb-true}
 use Rattle.lu_base.specs.declared.ids.At.{At}
 use Rattle.lu_base.specs.declared.ids.Node.{Node}
 use Rattle.lu_base.specs.declared.ids.Node.TheVariants.{Client, Target}
 use Rattle.lu_base.specs.declared.ids.Who.{Who}
-use Rattle.lu_base.specs.declared.ids.Cookie.{Cookie}
-use Rattle.lu_base.specs.declared.locks.Extent.{Extent}
-use Rattle.lu_base.specs.declared.locks.Lock.{Lock}
-use Rattle.lu_base.specs.declared.locks.Mode.TheVariants.{PR}
 use Rattle.lu_base.specs.declared.locks.Resource.{Resource}
 use Rattle.lu_msg.specs.declared.answers.Answer.{Answer}
 use Rattle.lu_msg.specs.declared.answers.Answer.TheVariants as told
@@ -19,46 +15,99 @@ use Rattle.lu_msg.specs.declared.messages.Message.{Message}
 use Rattle.lu_msg.specs.declared.operations.Op.{Op}
 use Rattle.lu_msg.specs.declared.operations.Op.TheVariants as op
 use Rattle.lu_words.specs.Carried.{Deed, Queued, Flight}
-use Rattle.lu_words.specs.Words.{Entry, Send, Flies, Act, Txn as Made, Grant, Line, line}
+use Rattle.lu_words.specs.Words.{Entry, Send, Flies, Act, Txn as Made, Grant, Wait, Answers as Responds, Line, line}
 use Rattle.lu_words.specs.Concerns.{concerns, only}
 use Rattle.lu_client_rows.specs.Caches.{granted_lock, brought}
 use Rattle.lu_covered.specs.ClientStates.{is_own}
 use Rattle.lu_covered.specs.TargetStates.{none}
-use Rattle.lu_covered.specs.Deeds.{whole}
 use Rattle.lu_covered.specs.Heads.{Head}
 use Rattle.lu_guards.proofs.Guards.{In, Was, EntryOk}
-use Rattle.lu_guards.proofs.StoryGuards.{ActsOk, GrantsOk}
-use Rattle.lu_guards.proofs.Acts.{sized_acted, sized_op, sized_answer, sized_bare, range_acted, range_op, range_answer, range_bare}
+use Rattle.lu_guards.proofs.StoryGuards.{RangeOk, GrantsOk, ReportedOk}
+use Rattle.lu_guards.proofs.Acts.{acts_sized, sized_bare, range_bare, wait_bare, responded, made}
 use Rattle.lu_guards.proofs.Grown.{Allowed, Grown}
 use Rattle.lu_guards.proofs.Lists.{self}
 use Rattle.lu_guards.proofs.Only.{was_only}
 use Rattle.lu_guards.proofs.Parts.{queue_now}
-use Rattle.lu_guards.proofs.ClientLines.{IsNames, IsSize, IsAskedOf, some_is, queue_asked}
+use Rattle.lu_guards.proofs.ClientLines.{IsNames, IsOnObject, IsAskedOf, asked_names, some_is, queue_asked}
 use Rattle.lu_facts.proofs.Groups.{turn, Flew, Acted}
-use Rattle.lu_facts.proofs.Lines.{DoneBy, acted_line, acted_here, only_more, done_here}
+use Rattle.lu_facts.proofs.Lines.{DoneBy, acted_line, acted_here, only_more, DoneIn, done_here}
 use Rattle.lu_facts.proofs.Brings.{alone}
 use Rattle.lu_facts.proofs.All.{holds}
 
 -- ---- what was done
 
-pub acted_at : (head : Head) (past : List Line) (d : Deed) → Grown head past → Acted past d → (t : ℕ) × (d.reply.at.node ≡ Target t)
-acted_at head [] d g a = absurd a
-acted_at head (l ∷ past) d g a =
-    ⊎_elim
-    (λ (p : DoneBy l.entry d). let k = done_here head past l.at.stamp l.at.node l.entry g.0.ok g.0.of g.0.owes d p in (k.0.0, ap (λ (v : At). v.node) k.1 ∙ k.0.1))
-    (λ (p : Acted past d). acted_at head past d g.1 p)
-    (acted_line l.at l.entry past d a)
-
-pub acted_only : (head : Head) (past : List Line) (d : Deed) (t : ℕ) → Grown head past → Acted past d → d.reply.at.node ≡ Target t → Acted (only t past) d
-acted_only head [] d t g a n = absurd a
-acted_only head (l ∷ past) d t g a n =
+-- it is in a target's story
+pub acted_some : (head : Head) (past : List Line) (d : Deed) → Grown head past → Acted past d → (t : ℕ) × Acted (only t past) d
+acted_some head [] d g a = absurd a
+acted_some head (l ∷ past) d g a =
     ⊎_elim
     (λ (p : DoneBy l.entry d).
     let k = done_here head past l.at.stamp l.at.node l.entry g.0.ok g.0.of g.0.owes d p in
-    let here : l.at.node ≡ Target t = ap (λ (v : At). v.node) (sym k.1) ∙ n in
-    subst (λ (b : Bool). Acted (if b then l ∷ only t past else only t past) d) (sym (ap (λ (v : Node). concerns t v l.entry) here ∙ self t)) (acted_here l.at l.entry (only t past) d p))
-    (λ (p : Acted past d). only_more t l past d (acted_only head past d t g.1 p n))
+    (k.0, subst (λ (b : Bool). Acted (if b then l ∷ only k.0 past else only k.0 past) d) (sym (ap (λ (v : Node). concerns k.0 v l.entry) k.1 ∙ self k.0)) (acted_here l.at l.entry (only k.0 past) d p)))
+    (λ (p : Acted past d). let k = acted_some head past d g.1 p in (k.0, only_more k.0 l past d k.1))
     (acted_line l.at l.entry past d a)
+
+-- a size that the holder of a lock said: its turn is a client's
+pub record IsReported (d : Deed) : Type 0 where
+  pub client : ℕ
+  pub node : d.reply.at.node ≡ Client client
+  pub number : d.reply.txn ≡ none
+  pub locks : d.reply.locks ≡ []
+  pub resource : Resource
+  pub of_op : d.op ≡ op.Size resource
+  pub size : ℕ
+  pub answer : d.reply.answer ≡ told.Size size
+
+pub reported : (osts : ℕ) (past : List Line) (at : At) (t : ℕ) (d : Deed) → ReportedOk osts past at t d → IsReported d
+reported osts past at t d k =
+    record {
+      client = k.report.who.client;
+      node = ap (λ (x : Deed). x.reply.at.node) k.is;
+      number = ap (λ (x : Deed). x.reply.txn) k.is;
+      locks = ap (λ (x : Deed). x.reply.locks) k.is;
+      resource = k.resource;
+      of_op = ap (λ (x : Deed). x.op) k.is ∙ k.of_op;
+      size = k.size;
+      answer = ap (λ (x : Deed). x.reply.answer) k.is;
+    }
+
+-- what its story says was done is done in a turn of it, or is such a size
+pub story_turn : (head : Head) (past : List Line) (t : ℕ) (d : Deed) → Grown head past → Acted (only t past) d → (d.reply.at.node ≡ Target t) ⊎ IsReported d
+story_turn head [] t d g a = absurd a
+story_turn head (l ∷ past) t d g a =
+    cond_both (concerns t l.at.node l.entry) (l ∷ only t past) (only t past) (λ (p : List Line). Acted p d → (d.reply.at.node ≡ Target t) ⊎ IsReported d)
+    (λ o b. ⊎_elim
+    (λ (p : DoneBy l.entry d).
+    let k = done_here head past l.at.stamp l.at.node l.entry g.0.ok g.0.of g.0.owes d p in
+    of k.0 (here l.entry k.0 p (subst (λ (n : Node). concerns t n l.entry ≡ true) k.1 o)) k.2)
+    (λ (p : Acted (only t past) d). story_turn head past t d g.1 p)
+    (acted_line l.at l.entry (only t past) d b))
+    (λ o b. story_turn head past t d g.1 b)
+    a
+  where
+    here : (e : Entry) (u : ℕ) → DoneBy e d → concerns t (Target u) e ≡ true → t ≡ u
+    here (Act x) u p o = eqb-true t u o
+    here (Made x) u p o = eqb-true t u o
+    here (Grant lock asked) u p o = eqb-true t u o
+    here (Wait lock x) u p o = eqb-true t u o
+    here (Responds x) u p o = eqb-true t u o
+    here e u p o = absurd p
+
+    of : (u : ℕ) → t ≡ u → DoneIn head past l.at.stamp u d → (d.reply.at.node ≡ Target t) ⊎ IsReported d
+    of u e (inl q) = inl (ap (λ (v : At). v.node) q ∙ ap Target (sym e))
+    of u e (inr q) = inr (reported head.osts (only u past) (turn l.at.stamp (Target u)) u d q)
+
+-- what was done in a turn of a target is in its story
+pub acted_only : (head : Head) (past : List Line) (d : Deed) (t : ℕ) → Grown head past → Acted past d → d.reply.at.node ≡ Target t → Acted (only t past) d
+acted_only head past d t g a n =
+    let k = acted_some head past d g a in
+    ⊎_elim
+    (λ (e : d.reply.at.node ≡ Target k.0). subst (λ (u : ℕ). Acted (only u past) d) (of_target k.0 t (sym e ∙ n)) k.1)
+    (λ (r : IsReported d). absurd (let e : Client r.client ≡ Target t = sym r.node ∙ n in cc))
+    (story_turn head past k.0 d g k.1)
+  where
+    of_target : (u v : ℕ) → Target u ≡ Target v → u ≡ v
+    of_target u v e = cc
 
 -- ---- what may be asked and done
 
@@ -85,90 +134,57 @@ flew_kind head (l ∷ past) t who f g a =
         b
     by _ _ k o b h = h b
 
--- it tells of an object that it has no bytes
-pub record ToldSize (d : Deed) : Type 0 where
-  pub resource : Resource
-  pub of_op : d.op ≡ op.Size resource
-  pub answer : d.reply.answer ≡ told.Size 0
-
--- or it grants a lock to read under, on the whole object, with that size
-pub record GotLock (d : Deed) : Type 0 where
-  pub resource : Resource
-  pub extent : Extent
-  pub cookie : Cookie
-  pub of_op : d.op ≡ op.Enqueue resource PR extent
-  pub answer : d.reply.answer ≡ told.Granted cookie whole 0
-
--- so does a target that isn't the metadata target
-pub record OnObject (d : Deed) : Type 0 where
-  pub locks : d.reply.locks ≡ []
-  pub number : d.reply.txn ≡ none
-  pub how : ToldSize d ⊎ GotLock d
-
-told_size : (osts : ℕ) (past : List Line) (at : At) (t : ℕ) (d : Deed) → 0 < t → ActsOk osts past at t d → OnObject d
-told_size osts past at t d high (inl a) = absurd (let zero = a.0 in omega (arith, high, zero))
-told_size osts past at t d high (inr a) =
-    let ok = a.1 in
-    record {
-      locks = sized_bare osts past at d ok;
-      number = (sized_acted osts past at d ok).number;
-      how = inl (record { resource = ok.resource; of_op = sized_op osts past at d ok; answer = sized_answer osts past at d ok });
-    }
-
-got_lock : (osts : ℕ) (past : List Line) (at : At) (t : ℕ) (lock : Lock) (d : Deed) → 0 < t → GrantsOk osts past at t lock d → OnObject d
-got_lock osts past at t lock d high (inl a) = absurd (let zero = a.0 in omega (arith, high, zero))
-got_lock osts past at t lock d high (inr a) =
-    let ok = a.1 in
-    record {
-      locks = range_bare osts past at lock d ok;
-      number = (range_acted osts past at lock d ok).number;
-      how = inr (record { resource = ok.resource; extent = ok.extent; cookie = lock.cookie; of_op = range_op osts past at lock d ok; answer = range_answer osts past at lock d ok });
-    }
-
-pub acted_object : (head : Head) (past : List Line) (t : ℕ) (d : Deed) → 0 < t → Grown head past → Acted (only t past) d → OnObject d
-acted_object head [] t d high g a = absurd a
-acted_object head (l ∷ past) t d high g a =
-    cond_both (concerns t l.at.node l.entry) (l ∷ only t past) (only t past) (λ (p : List Line). Acted p d → OnObject d)
-    (λ o b. by l.at.node l.entry g.0 o b (acted_object head past t d high g.1))
-    (λ o b. acted_object head past t d high g.1 b)
-    a
-  where
-    by : (node : Node) (e : Entry) → Allowed head past (turn l.at.stamp node) e → concerns t node e ≡ true → Acted (line (turn l.at.stamp node) e ∷ only t past) d → (Acted (only t past) d → OnObject d) → OnObject d
-    by (Client c) (Act x) k o b h = absurd k.ok
-    by (Client c) (Made x) k o b h = absurd k.ok
-    by (Client c) (Grant lock asked) k o b h = absurd k.ok
-    by (Target u) (Act x) k o (inl p) h =
-        let same : t ≡ u = eqb-true t u o in
-        subst OnObject p (told_size head.osts (only t past) (turn l.at.stamp (Target u)) u x (subst (λ (v : ℕ). 0 < v) same high) (k.of t o))
-    by (Target u) (Act x) k o (inr b) h = h b
-    by (Target u) (Grant lock (Some x)) k o (inl p) h =
-        let same : t ≡ u = eqb-true t u o in
-        subst OnObject (some_is x d p) (got_lock head.osts (only t past) (turn l.at.stamp (Target u)) u lock x (subst (λ (v : ℕ). 0 < v) same high) (k.of t o))
-    by (Target u) (Grant lock None) k o (inl p) h = absurd (cc)
-    by (Target u) (Grant lock asked) k o (inr b) h = h b
-    by (Target u) (Made x) k o b h = absurd (let zero = k.ok in let same = eqb-true t u o in omega (arith, high, zero, same))
-    by _ _ k o b h = h b
-
--- who asks how long it is is told that
-pub size_told : (d : Deed) → OnObject d → IsSize d.op → d.reply.answer ≡ told.Size 0
-size_told d k asks = by k.how
-  where
-    by : ToldSize d ⊎ GotLock d → d.reply.answer ≡ told.Size 0
-    by (inl size) = size.answer
-    by (inr lock) = absurd (subst IsSize lock.of_op asks)
-
 -- what a target does
 abbrev pub ActedKind : ℕ → Deed → Type 0
-ActedKind t d = ((t ≡ 0) × IsNames d.op) ⊎ ((0 < t) × OnObject d)
+ActedKind t d = ((t ≡ 0) × IsNames d.op) ⊎ ((0 < t) × IsOnObject d.op)
 
 pub acted_kind : (head : Head) (past : List Line) (t : ℕ) (d : Deed) → Grown head past → Acted (only t past) d → ActedKind t d
 acted_kind head past t d g a =
     let flew = ((holds head past g).at t).done.flew d a in
-    by (subst (IsAskedOf t) flew.3 (flew_kind head past t d.reply.who flew.0 g flew.1))
+    subst (IsAskedOf t) flew.3 (flew_kind head past t d.reply.who flew.0 g flew.1)
+
+-- what the metadata target does is done in a turn of its own
+pub first_at : (head : Head) (past : List Line) (d : Deed) → Grown head past → Acted (only 0 past) d → d.reply.at.node ≡ Target 0
+first_at head past d g a = ⊎_elim (λ (e : d.reply.at.node ≡ Target 0). e) (λ (k : IsReported d). absurd (subst IsNames k.of_op (asked_names d.op (acted_kind head past 0 d g a)))) (story_turn head past 0 d g a)
+
+-- locks come beside the answer of the metadata target alone
+pub acted_bare : (head : Head) (past : List Line) (t : ℕ) (d : Deed) → 0 < t → Grown head past → Acted (only t past) d → d.reply.locks ≡ []
+acted_bare head [] t d high g a = absurd a
+acted_bare head (l ∷ past) t d high g a =
+    cond_both (concerns t l.at.node l.entry) (l ∷ only t past) (only t past) (λ (p : List Line). Acted p d → d.reply.locks ≡ [])
+    (λ o b. by l.at.node l.entry g.0 o b (acted_bare head past t d high g.1))
+    (λ o b. acted_bare head past t d high g.1 b)
+    a
   where
-    by : IsAskedOf t d.op → ActedKind t d
-    by (inl k) = inl k
-    by (inr k) = inr (k.0, acted_object head past t d k.0 g a)
+    P : List Line
+    P = only t past
+
+    here : (u : ℕ) → nat_eq t u ≡ true → 0 < u
+    here u o = subst (λ (v : ℕ). 0 < v) (eqb-true t u o) high
+
+    by : (node : Node) (e : Entry) → Allowed head past (turn l.at.stamp node) e → concerns t node e ≡ true → Acted (line (turn l.at.stamp node) e ∷ P) d → (Acted P d → d.reply.locks ≡ []) → d.reply.locks ≡ []
+    by (Client c) (Act x) k o b h = absurd k.ok
+    by (Client c) (Made x) k o b h = absurd k.ok
+    by (Client c) (Grant lock asked) k o b h = absurd k.ok
+    by (Client c) (Wait lock x) k o b h = absurd k.ok
+    by (Client c) (Responds x) k o b h = absurd k.ok
+    by (Target u) (Act x) k o (inl p) h = ap (λ (v : Deed). v.reply.locks) (sym p) ∙ sized_bare head.osts P (turn l.at.stamp (Target u)) x (acts_sized head.osts P (turn l.at.stamp (Target u)) u x (here u o) (k.of t o))
+    by (Target u) (Act x) k o (inr b) h = h b
+    by (Target u) (Made x) k o (inl p) h = ap (λ (v : Deed). v.reply.locks) (sym p) ∙ (made head.osts P (turn l.at.stamp (Target u)) u x (k.of t o)).bare
+    by (Target u) (Made x) k o (inr b) h = h b
+    by (Target u) (Grant lock (Some x)) k o (inl p) h =
+        ap (λ (v : Deed). v.reply.locks) (sym (some_is x d p)) ∙ range_bare head.osts P (turn l.at.stamp (Target u)) lock x (ranged (k.of t o))
+      where
+        ranged : GrantsOk head.osts P (turn l.at.stamp (Target u)) u lock x → RangeOk head.osts P (turn l.at.stamp (Target u)) lock x
+        ranged (inl q) = absurd (let up = here u o in let zero = q.0 in omega (arith, up, zero))
+        ranged (inr q) = q.1
+    by (Target u) (Grant lock None) k o (inl p) h = absurd (cc)
+    by (Target u) (Grant lock asked) k o (inr b) h = h b
+    by (Target u) (Wait lock x) k o (inl p) h = ap (λ (v : Deed). v.reply.locks) (sym p) ∙ wait_bare head.osts P (turn l.at.stamp (Target u)) lock x (k.of t o).1
+    by (Target u) (Wait lock x) k o (inr b) h = h b
+    by (Target u) (Responds x) k o (inl p) h = ap (λ (v : Deed). v.reply.locks) (sym p) ∙ ap (λ (v : Deed). v.reply.locks) (responded head.osts P (turn l.at.stamp (Target u)) u x (k.of t o).1).is
+    by (Target u) (Responds x) k o (inr b) h = h b
+    by _ _ k o b h = h b
 
 -- an operation on names brings the locks of its reply alone
 pub names_bring : (head : Head) (past : List Line) (d : Deed) → Grown head past → Acted (only 0 past) d → brought d.op d.reply ≡ d.reply.locks

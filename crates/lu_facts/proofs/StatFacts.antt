@@ -18,6 +18,7 @@ use Rattle.lu_part.specs.declared.parts.Part.TheVariants as part
 use Rattle.lu_msg.specs.declared.answers.Answer.{Answer}
 use Rattle.lu_msg.specs.declared.answers.Answer.TheVariants as told
 use Rattle.lu_msg.specs.declared.calls.Call.TheVariants as call
+use Rattle.lu_msg.specs.declared.messages.Message.TheVariants as message
 use Rattle.lu_msg.specs.declared.operations.Op.{Op}
 use Rattle.lu_msg.specs.declared.operations.Op.TheVariants as op
 use Rattle.lu_held.specs.declared.locks.HeldLock.{HeldLock}
@@ -25,20 +26,20 @@ use Rattle.lu_held.specs.declared.names.LockName.{LockName}
 use Rattle.lu_machine.specs.declared.child.Child.TheVariants.{Dir, File}
 use Rattle.lu_machine.specs.Tree.{Tree, attributes}
 use Rattle.lu_machine.specs.Footprint.{answer, touches, Apart}
-use Rattle.lu_words.specs.Carried.{Deed, Stats, Work, Stage, Plain, Bad, Enqueued, Came, Sizes, Running}
+use Rattle.lu_words.specs.Carried.{Deed, Glimpses, Stats, Work, Stage, Enqueued, Forgotten, Gets, Sizes, Running}
 use Rattle.lu_words.specs.Words.{Entry, Drop, Life, Line, line}
 use Rattle.lu_words.specs.Concerns.{only}
 use Rattle.lu_target_rows.specs.Lives.{is_life}
-use Rattle.lu_client_rows.specs.Caches.{held_at}
+use Rattle.lu_client_rows.specs.Recovery.{is_left_at}
+use Rattle.lu_client_rows.specs.Caches.{brought, held_at}
 use Rattle.lu_client_rows.specs.Facts as facts
 use Rattle.lu_client_rows.specs.Facts.{Fact, without_facts, facts_at}
 use Rattle.lu_client_rows.specs.Known.{Notes, same_part, found_at_path, fact_on, file_known, cookie_of, cookies_of_file, name_of, with_name, names_of}
-use Rattle.lu_covered.specs.Calls.{call_at, becomes, life_at, is_bad, file_for}
-use Rattle.lu_covered.specs.Covered.{IsOnSizes}
+use Rattle.lu_covered.specs.Calls.{call_at, life_at}
 use Rattle.lu_covered.specs.Known.{notes_at, known_file}
 use Rattle.lu_covered.specs.TargetStates.{server_of, evicted_of, tree_at, committed_at}
 use Rattle.lu_covered.specs.Heads.{Head}
-use Rattle.lu_guards.proofs.Guards.{In, SizesStand, LockStand, KnowsFile, ToldFile, GoesOn, StatOf, StatStand, StandsOk, EntryOk}
+use Rattle.lu_guards.proofs.Guards.{In, Took, Begins, IsChange, ReadsOn, ChangesOn, work_in, LeftSize, SizesStand, LockStand, KnowsFile, ToldFile, GoesOn, StatOf, StatStand, GetStand, FlushStand, Replied, LockGranted, MovedStand, StandsOk, EntryOk}
 use Rattle.lu_guards.proofs.Grown.{Grown, GrownOf}
 use Rattle.lu_guards.proofs.Lists.{self, in_left, in_right, in_filtered}
 use Rattle.lu_guards.proofs.Only.{grown_of}
@@ -107,9 +108,9 @@ Pinned past c pins f = In f (facts_at c past) × In (name_of f.cookie) pins
 abbrev IsKept : List Line → ℕ → List LockName → Fact → Type 0
 IsKept past c pins f = Pinned past c pins f × IsHeld past c f
 
--- where a call on objects goes on, with that work
+-- a call on objects goes on with that work
 abbrev AtWork : Stage → Work → Type 0
-AtWork stage work = (stage ≡ Enqueued work) ⊎ ((lock : Lock) × (stage ≡ Came work lock))
+AtWork stage work = work_in stage ≡ Some work
 
 -- what a stat that goes on for the size of its file knows of it, under the locks that it has pinned
 abbrev KnowsStat : List Line → ℕ → Running → Type 0
@@ -220,23 +221,23 @@ file_as K path walk fid gid mode to links of layout laid p f m l o h =
     (subst (λ (v : ℕ). FileBy K path fid mode v laid) l
     (subst (λ (v : Raid0). FileBy K path fid mode links v) o h))))
 
-at_work : (stage : Stage) (w : Work) (A B : Type 0) → ((stage ≡ Enqueued w) × A) ⊎ ((lock : Lock) × (stage ≡ Came w lock) × B) → AtWork stage w
-at_work stage w A B (inl e) = inl e.0
-at_work stage w A B (inr e) = inr (e.0, e.1)
-
 one_work : (stage : Stage) (v w : Work) → AtWork stage v → AtWork stage w → v ≡ w
-one_work stage v w (inl p) (inl q) = let e : Enqueued v ≡ Enqueued w = sym p ∙ q in cc
-one_work stage v w (inl p) (inr q) = let e : Enqueued v ≡ Came w q.0 = sym p ∙ q.1 in absurd (cc)
-one_work stage v w (inr p) (inl q) = let e : Came v p.0 ≡ Enqueued w = sym p.1 ∙ q in absurd (cc)
-one_work stage v w (inr p) (inr q) = let e : Came v p.0 ≡ Came w q.0 = sym p.1 ∙ q.1 in cc
+one_work stage v w p q = let e : Some v ≡ Some w = sym p ∙ q in cc
 
-no_work : (stage : Stage) (w : Work) → (stage ≡ Plain) ⊎ (stage ≡ Bad) ⊎ ((v : Work) × (stage ≡ Sizes v)) → AtWork stage w → ⊥
-no_work stage w (inl p) (inl q) = let e : Plain ≡ Enqueued w = sym p ∙ q in cc
-no_work stage w (inl p) (inr q) = let e : Plain ≡ Came w q.0 = sym p ∙ q.1 in cc
-no_work stage w (inr (inl p)) (inl q) = let e : Bad ≡ Enqueued w = sym p ∙ q in cc
-no_work stage w (inr (inl p)) (inr q) = let e : Bad ≡ Came w q.0 = sym p ∙ q.1 in cc
-no_work stage w (inr (inr p)) (inl q) = let e : Sizes p.0 ≡ Enqueued w = sym p.1 ∙ q in cc
-no_work stage w (inr (inr p)) (inr q) = let e : Sizes p.0 ≡ Came w q.0 = sym p.1 ∙ q.1 in cc
+no_work : (stage : Stage) (w : Work) → work_in stage ≡ None → AtWork stage w → ⊥
+no_work stage w none at = let e : None ≡ Some w = sym none ∙ at in cc
+
+-- a message that moves a call leaves its work as it is
+moved_work : (past : List Line) (now : At) (c : ℕ) (q : Running) (stage : Stage) → MovedStand past now c q stage → work_in stage ≡ work_in q.stage
+moved_work past now c q stage (inl h) = ap work_in h.is ∙ sym (⊎_elim
+    (λ (k : (q.stage ≡ Enqueued h.work) × ((a : Replied past now q) × (o : Op) × In h.lock (brought o a.reply))). ap work_in k.0)
+    (λ (k : LockGranted past now q h.work h.lock). ap work_in k.stage) h.from)
+moved_work past now c q stage (inr (inl h)) = ap work_in h.is ∙ sym (ap work_in h.before)
+moved_work past now c q stage (inr (inr (inl h))) = ap work_in h.is ∙ sym (ap work_in h.before)
+moved_work past now c q stage (inr (inr (inr (inl h)))) = ap work_in h.is ∙ sym (ap work_in h.before)
+moved_work past now c q stage (inr (inr (inr (inr h)))) = ap work_in h.is ∙ sym (⊎_elim
+    (λ (k : (q.stage ≡ Forgotten h.work) × ((t : ℕ) × (who : Who) × (boot committed : ℕ) × Took past now (Target t) (message.Ready who boot (record { 0 = committed })) × (is_left_at t h.work.left ≡ true))). ap work_in k.0)
+    (λ (k : (q.stage ≡ Gets h.work) × Replied past now q). ap work_in k.0) h.from)
 
 pub one_path : (p q : List (List ℕ)) → call.Stat p ≡ call.Stat q → p ≡ q
 one_path p q e = cc
@@ -247,11 +248,14 @@ one_kind a b m n e = (cc, cc)
 no_read : (path : List (List ℕ)) (handle offset count : ℕ) → call.Read handle offset count ≡ call.Stat path → ⊥
 no_read path handle offset count e = cc
 
--- what call goes on as it was goes on with the same knowledge
-knows_as : (past new : List Line) (c : ℕ) (q r : Running) → q.call ≡ r.call → q.stage ≡ r.stage → q.pins ≡ r.pins → ((f : Fact) → Pinned past c q.pins f → In f (facts_at c new)) → KnowsStat past c q → KnowsStat new c r
+no_size : (mode links : ℕ) (sizes : List ℕ) → Glimpses sizes ≡ Stats mode links → ⊥
+no_size mode links sizes e = cc
+
+-- what call goes on with the work that it had goes on with the same knowledge
+knows_as : (past new : List Line) (c : ℕ) (q r : Running) → q.call ≡ r.call → work_in q.stage ≡ work_in r.stage → q.pins ≡ r.pins → ((f : Fact) → Pinned past c q.pins f → In f (facts_at c new)) → KnowsStat past c q → KnowsStat new c r
 knows_as past new c q r s a p stay h path work mode links is at kind =
     file_more (Pinned past c q.pins) (Pinned new c r.pins) (λ f k. (stay f k, subst (λ (ns : List LockName). In (name_of f.cookie) ns) p k.1)) path work.fid mode links work.layout
-    (h path work mode links (s ∙ is) (subst (λ (x : Stage). AtWork x work) (sym a) at) kind)
+    (h path work mode links (s ∙ is) (a ∙ at) kind)
 
 module _ (head : Head) (past : List Line) (now : At) (c slot : ℕ) (r : Running) (own : now.node ≡ Client c) (g : Grown head past) (fit : PinsFit past) where
   knows_stood : (new : List Line) → ((f : Fact) → In f (facts_at c past) → In f (facts_at c new)) → (ok : StandsOk past now c slot r) → KnowsStat past c ok.running → KnowsStat new c r
@@ -263,34 +267,61 @@ module _ (head : Head) (past : List Line) (now : At) (c slot : ℕ) (r : Running
       stats : ok.running.call ≡ call.Stat path
       stats = ap (λ (v : Running). v.call) (sym ok.is) ∙ is
 
-      by : SizesStand past now ok.running ok.stage ok.pins ⊎ LockStand past c ok.running ok.stage ⊎ StatStand past now c ok.running ok.stage ok.pins → FileBy (Pinned new c r.pins) path work.fid mode links work.layout
-      by (inl z) = absurd (no_work r.stage work (inr (inr (z.work, sym stage_is ∙ z.is))) at)
-      by (inr (inl z)) = absurd (no_read path z.read.handle z.read.offset z.read.count (sym z.read.reads ∙ stats))
-      by (inr (inr z)) =
-          let here : AtWork ok.stage z.work = at_work ok.stage z.work _ _ z.is in
-          let same : z.work ≡ work = one_work r.stage z.work work (subst (λ (x : Stage). AtWork x z.work) stage_is here) at in
+      pins_are : ok.pins ≡ r.pins
+      pins_are = ap (λ (v : Running). v.pins) (sym ok.is)
+
+      Knows : Type 0
+      Knows = FileBy (Pinned new c r.pins) path work.fid mode links work.layout
+
+      -- it has that work
+      worked : (w : Work) → work_in ok.stage ≡ Some w → w ≡ work
+      worked w e = one_work r.stage w work (sym (ap work_in stage_is) ∙ e) at
+
+      stands : (z : StatStand past now c ok.running ok.stage ok.pins) → z.work ≡ work → Knows
+      stands z same =
           let numbers = one_kind z.stat.mode z.stat.links mode links (sym z.kind ∙ ap (λ (w : Work). w.kind) same ∙ kind) in
           file_as (Pinned new c r.pins) z.stat.path path z.stat.fid work.fid z.stat.mode mode z.stat.links links z.stat.layout work.layout
           (one_path z.stat.path path (sym z.stat.stats ∙ stats)) (sym z.of_fid ∙ ap (λ (w : Work). w.fid) same) numbers.0 numbers.1 (sym z.of_layout ∙ ap (λ (w : Work). w.layout) same)
           (file_more (IsKept past c ok.pins) (Pinned new c r.pins)
-          (λ f k. (stay f k.0.0, subst (λ (ns : List LockName). In (name_of f.cookie) ns) (ap (λ (v : Running). v.pins) (sym ok.is)) k.0.1)) z.stat.path z.stat.fid z.stat.mode z.stat.links z.stat.layout
+          (λ f k. (stay f k.0.0, subst (λ (ns : List LockName). In (name_of f.cookie) ns) pins_are k.0.1)) z.stat.path z.stat.fid z.stat.mode z.stat.links z.stat.layout
           (stat_file head past now c slot ok.running ok.pins own g fit ok.call before z.stat))
+
+      changes_are : {w : Work} → ChangesOn ok.running w → IsChange ok.running.call
+      changes_are (inl d) = subst IsChange (sym d.writes) tt
+      changes_are (inr d) = subst IsChange (sym d.cuts) tt
+
+      sized : (z : SizesStand past now ok.running ok.stage ok.pins) → z.work ≡ work → Knows
+      sized z same = absurd (no_size mode links z.sizes (sym z.kind ∙ ap (λ (w : Work). w.kind) same ∙ kind))
+
+      by : SizesStand past now ok.running ok.stage ok.pins ⊎ LockStand past c ok.running ok.stage ⊎ StatStand past now c ok.running ok.stage ok.pins ⊎ GetStand past c ok.running ok.stage ok.pins ⊎ FlushStand past c ok.running ok.stage ok.pins
+          ⊎ ((ok.pins ≡ ok.running.pins) × MovedStand past now c ok.running ok.stage)
+          → Knows
+      by (inl z) = sized z (worked z.work (⊎_elim (λ (e : ok.stage ≡ Sizes z.work). ap work_in e) (λ (k : (ok.stage ≡ Enqueued z.work) × LeftSize past now ok.running z.sizes). ap work_in k.0) z.is))
+      by (inr (inl z)) = absurd (⊎_elim
+          (λ (d : ReadsOn ok.running z.work). no_read path d.read.handle d.read.offset d.read.count (sym d.read.reads ∙ stats))
+          (λ (d : ChangesOn ok.running z.work). subst IsChange stats (changes_are d)) z.does)
+      by (inr (inr (inl z))) = stands z (worked z.work (ap work_in z.is))
+      by (inr (inr (inr (inl z)))) = absurd (no_read path z.does.read.handle z.does.read.offset z.does.read.count (sym z.does.read.reads ∙ stats))
+      by (inr (inr (inr (inr (inl z))))) = absurd (no_work r.stage work (sym (ap work_in stage_is) ∙ ap work_in z.is) at)
+      by (inr (inr (inr (inr (inr z))))) =
+          knows_as past new c ok.running r (ap (λ (v : Running). v.call) (sym ok.is)) (sym (moved_work past now c ok.running ok.stage z.1) ∙ ap work_in stage_is) (sym z.0 ∙ pins_are) (λ f p. stay f p.0) before path work mode links is at kind
 
 stat_knows : (head : Head) (past : List Line) (c slot : ℕ) (r : Running) → Grown head past → PinsFit past → call_at c slot past ≡ Some r → KnowsStat past c r
 stat_knows head [] c slot r g fit e = absurd (cc)
 stat_knows head (l ∷ past) c slot r g fit e = by l.at.node l.entry g.0.ok fit e (λ q k. stat_knows head past c slot q g.1 fit.1 k)
   where
+    begun : Begins c past r → work_in r.stage ≡ None
+    begun (inl b) = ap work_in b.1
+    begun (inr b) = ap work_in b.1
+
     -- what is known stays, where the facts do
     going : (node : Node) (e : Entry) → EntryOk past (turn l.at.stamp node) node e → KeepsFacts e → ((q : Running) → call_at c slot past ≡ Some q → KnowsStat past c q)
         → CallCame past (turn l.at.stamp node) node e c slot r → KnowsStat (line (turn l.at.stamp node) e ∷ past) c r
     going node e ok keeps ih (inl same) =
         knows_as past (line (turn l.at.stamp node) e ∷ past) c r r refl refl refl (λ f p. facts_stay c past l.at.stamp f node e ok keeps p.0) (ih r same)
-    going node e ok keeps ih (inr (inl q)) = λ path work mode links is at kind.
-        absurd (no_work r.stage work (⊎_elim
-        (λ (b : (is_bad c past r.call ≡ false) × (r.stage ≡ Plain) × (r.file ≡ file_for c past r.call) × (((o : Op) × (becomes r ≡ Some o)) ⊎ IsOnSizes r.call)). inl b.1)
-        (λ (b : (is_bad c past r.call ≡ true) × (r.stage ≡ Bad) × (r.file ≡ None)). inr (inl b.1)) q.begins) at)
+    going node e ok keeps ih (inr (inl q)) = λ path work mode links is at kind. absurd (no_work r.stage work (begun q.begins) at)
     going node e ok keeps ih (inr (inr (inl q))) =
-        knows_as past (line (turn l.at.stamp node) e ∷ past) c q.before r q.same q.stage q.pins (λ f p. facts_stay c past l.at.stamp f node e ok keeps p.0) (ih q.before q.call)
+        knows_as past (line (turn l.at.stamp node) e ∷ past) c q.before r q.same (ap work_in q.stage) q.pins (λ f p. facts_stay c past l.at.stamp f node e ok keeps p.0) (ih q.before q.call)
     going node e ok keeps ih (inr (inr (inr q))) =
         knows_stood head past (turn l.at.stamp node) c slot r q.own g.1 fit.1 (line (turn l.at.stamp node) e ∷ past) (λ f i. facts_stay c past l.at.stamp f node e ok keeps i) q.stands (ih q.stands.running q.stands.call)
 

@@ -1,4 +1,4 @@
--- What replies to readings taught is true while the lock is granted under which it is known, unless its client doesn't hold that and never will; and each
+-- At the metadata target: what replies to readings taught is true while the lock is granted under which it is known, unless its client doesn't hold that and never will; and each
 -- transaction that stands and wrote what such a fact is of is committed, or the reply has seen it. To a life that was evicted all that it knows is true of
 -- the tree as it was then. Here all lines but those that close a recovery window.
 use Rattle.std.proofs.Common.{◌≡◌, ℕ, ◌+◌, ◌*◌, ◌<◌, ◌≤◌, Bool, true, false, List, [], ◌∷◌, ◌⊎◌, inl, inr, ⊎_elim, refl, sym, subst, ap, ◌∙◌, arith, Some, None, le_refl}
@@ -25,10 +25,10 @@ use Rattle.lu_machine.specs.Table.{root}
 use Rattle.lu_machine.specs.Footprint.{Same, empty, touches, grants, after, Apart}
 use Rattle.lu_machine.proofs.Footprints.{same_refl}
 use Rattle.lu_words.specs.Carried.{Deed}
-use Rattle.lu_words.specs.Words.{Entry, Act, Txn as Made, Grant, Commit, Close, Release, Evict, Boot, Line, line}
+use Rattle.lu_words.specs.Words.{Entry, Act, Txn as Made, Grant, Wait, Answers, Commit, Close, Release, Evict, Boot, Line, line}
 use Rattle.lu_client_rows.specs.Facts.{Fact, taught}
 use Rattle.lu_target_rows.specs.Lives.{is_life}
-use Rattle.lu_target_rows.specs.Locks.{with_lock, with_locks}
+use Rattle.lu_target_rows.specs.Locks.{with_locks}
 use Rattle.lu_target_rows.specs.Names.{in_way, is_free}
 use Rattle.lu_covered.specs.TargetParts.{operation}
 use Rattle.lu_covered.specs.TargetStates.{Server, none, server_of, evicted_of, next_number}
@@ -36,22 +36,23 @@ use Rattle.lu_covered.specs.TargetCloses.{is_lost}
 use Rattle.lu_covered.specs.Deeds.{asked, deed, locks_of, written_by}
 use Rattle.lu_covered.specs.Heads.{Head}
 use Rattle.lu_guards.proofs.Guards.{In}
-use Rattle.lu_guards.proofs.StoryGuards.{IsServing, ActOk, SizedOk, RangeOk, GrantsOk, EntryOf}
-use Rattle.lu_guards.proofs.Acts.{sized_bare, range_bare}
+use Rattle.lu_guards.proofs.StoryGuards.{IsServing, ActOk, ActsOk, TxnOk, TxnsOk, GrantOk, GrantsOk, EntryOf}
 use Rattle.lu_guards.proofs.Lists.{in_filter}
 use Rattle.lu_guards.proofs.Turns.{IsNoClose}
-use Rattle.lu_guards.proofs.ClientLines.{from_high}
-use Rattle.lu_facts.proofs.Groups.{turn, Acted, IsMade, Dead, Evicted, Lapsed, HoldsAt}
+use Rattle.lu_guards.proofs.ClientLines.{from_high, some_is}
+use Rattle.lu_facts.proofs.Groups.{turn, Acted, IsMade, Dead, Evicted, Lapsed, IsOver, HoldsAt}
 use Rattle.lu_facts.proofs.Brings.{of_reply}
-use Rattle.lu_facts.proofs.GrantLines.{grant_acted, grant_made}
-use Rattle.lu_facts.proofs.LockLists.{with_in, withs_in, left_in}
+use Rattle.lu_facts.proofs.Hopes.{gives_names}
+use Rattle.lu_facts.proofs.DoneGrows.{did_acted}
+use Rattle.lu_facts.proofs.FirstDeeds.{FirstOf}
+use Rattle.lu_facts.proofs.LockLists.{withs_in, left_in}
 use Rattle.lu_facts.proofs.Keeps.{commits_more}
 use Rattle.lu_facts.proofs.ItemLists.{same_forgot}
 use Rattle.lu_facts.proofs.KnownPaths.{Tells}
 use Rattle.lu_facts.proofs.TaughtFacts.{Guards, LiesOn, Lies, SeenPlace, PlaceOf, taught_right}
 use Rattle.lu_facts.proofs.FactsStay.{Spares, IsSound, free_spares, fact_stays, fact_unwritten, place_stays, tells_wide, tells_all}
 use Rattle.lu_facts.proofs.PartsStay.{Closed, OfKept, Saw, act_kept, act_saw, sound_now}
-use Rattle.lu_facts.proofs.Unheld.{Unheld, keeps_unheld}
+use Rattle.lu_facts.proofs.Unheld.{keeps_over}
 
 -- ---- the group
 
@@ -99,8 +100,8 @@ Under osts past d f =
       among : In lock d.reply.locks;
       cookie : lock.cookie ≡ f.cookie;
       lies : Lies lock f;
-      stands : (Unheld past d lock → ⊥) → In lock (server_of osts past).granted → Rests osts past d f;
-      left : (Unheld past d lock → ⊥) → Evicted past d.reply.who → Tells (tree_for osts d.reply.who past) (bound_of osts past) f;
+      stands : (IsOver past d lock → ⊥) → In lock (server_of osts past).granted → Rests osts past d f;
+      left : (IsOver past d lock → ⊥) → Evicted past d.reply.who → Tells (tree_for osts d.reply.who past) (bound_of osts past) f;
     }
 
 abbrev pub Taught : ℕ → List Line → Type 0
@@ -121,10 +122,10 @@ tree_then osts who l past e now = cond-true (is_life who (evicted_of (l ∷ past
 tree_left : (osts : ℕ) (who : Who) (l : Line) (past : List Line) → is_life who (evicted_of past) ≡ false → Evicted (l ∷ past) who → tree_for osts who (l ∷ past) ≡ (server_of osts past).tree
 tree_left osts who l past e now = cond-true (is_life who (evicted_of (l ∷ past))) _ (server_of osts (l ∷ past)).tree now ∙ cond-false (is_life who (evicted_of past)) (tree_for osts who past) (server_of osts past).tree e
 
-module _ (head : Head) (past : List Line) (all : HoldsAt head past) (d : Deed) (f : Fact) (k : Under head.osts past d f) (a : Acted past d) (fresh : Unheld past d k.lock → ⊥) where
+module _ (head : Head) (past : List Line) (all : HoldsAt head past) (d : Deed) (f : Fact) (k : Under head.osts past d f) (a : Acted past d) (fresh : IsOver past d k.lock → ⊥) where
   -- the lock of a life that wasn't evicted is granted
   pub granted_now : is_life d.reply.who (evicted_of past) ≡ false → In k.lock (server_of head.osts past).granted
-  granted_now e = by (all.locks.alive d k.lock (a, of_reply d.op d.reply k.lock k.among))
+  granted_now e = by (all.locks.alive d k.lock (a, inl (of_reply d.op d.reply k.lock k.among)))
     where
       by : In k.lock (server_of head.osts past).granted ⊎ Dead past d k.lock ⊎ Evicted past d.reply.who ⊎ Lapsed past d k.lock → In k.lock (server_of head.osts past).granted
       by (inl i) = i
@@ -155,7 +156,7 @@ module _ (head : Head) (past : List Line) (all : HoldsAt head past) (d : Deed) (
 
 module _ (head : Head) (past : List Line) (stamp : Stamp) (node : Node) (e : Entry) (ok : EntryOf head past (turn stamp node) node e) (all : HoldsAt head past) where
   pub under_line : bound_of head.osts past ≤ bound_of head.osts (line (turn stamp node) e ∷ past) → (d : Deed) (f : Fact) → Acted past d → (k : Under head.osts past d f)
-      → ((Unheld past d k.lock → ⊥) → In k.lock (server_of head.osts (line (turn stamp node) e ∷ past)).granted → Rests head.osts (line (turn stamp node) e ∷ past) d f) → Under head.osts (line (turn stamp node) e ∷ past) d f
+      → ((IsOver past d k.lock → ⊥) → In k.lock (server_of head.osts (line (turn stamp node) e ∷ past)).granted → Rests head.osts (line (turn stamp node) e ∷ past) d f) → Under head.osts (line (turn stamp node) e ∷ past) d f
   under_line up d f a k rests =
       record {
         lock = k.lock;
@@ -169,8 +170,8 @@ module _ (head : Head) (past : List Line) (stamp : Stamp) (node : Node) (e : Ent
       new : List Line
       new = line (turn stamp node) e ∷ past
 
-      before : (Unheld new d k.lock → ⊥) → Unheld past d k.lock → ⊥
-      before fresh u = fresh (keeps_unheld head past stamp node e ok all d k.lock (a, of_reply d.op d.reply k.lock k.among) u)
+      before : (IsOver new d k.lock → ⊥) → IsOver past d k.lock → ⊥
+      before fresh u = fresh (keeps_over head past stamp node e ok all d k.lock (a, inl (of_reply d.op d.reply k.lock k.among)) u)
 
 -- ---- lines that leave all parts of the tree as they are
 
@@ -258,7 +259,7 @@ module _ (head : Head) (past : List Line) (at : At) (t : ℕ) (r : RequestOf) (w
   old_granted : (d : Deed) (l : Lock) → Acted past d → In l d.reply.locks → In l (with_locks acting.reply.locks v.granted) → In l v.granted
   old_granted d l a i j =
       ⊎_elim
-      (λ (k : In l acting.reply.locks). absurd (let le = all.locks.low serves d l (a, of_reply d.op d.reply l i) in let lt = from_high v.cookie r.who (grants head.osts v.tree (asked r none)) l k in omega (arith, le, lt)))
+      (λ (k : In l acting.reply.locks). absurd (let le = all.locks.low serves d l.cookie.0 a (gives_names d l (of_reply d.op d.reply l i)) in let lt = from_high v.cookie r.who (grants head.osts v.tree (asked r none)) l k in omega (arith, le, lt)))
       (λ (k : In l v.granted). k)
       (withs_in acting.reply.locks l v.granted j)
 
@@ -373,37 +374,20 @@ module _ (head : Head) (past : List Line) (stamp : Stamp) (all : HoldsAt head pa
           under_line head past stamp (Target t) (Act new) (subst (λ (x : Deed). EntryOf head past (turn stamp (Target t)) (Target t) (Act x)) ok.is entry) all (le_refl (bound_of head.osts past)) e f a u
           (λ fresh j. rests_later head.osts past (line (turn stamp (Target t)) (Act new) ∷ past) (act_later head past (turn stamp (Target t)) t ok.request ok.waits ok.serves all) e f (u.stands fresh (old_granted head past (turn stamp (Target t)) t ok.request ok.waits ok.serves all e u.lock a u.among j)))
 
-  -- a glimpse teaches nothing
-  sized_taught : (t : ℕ) (d : Deed) → SizedOk head.osts past (turn stamp (Target t)) d → EntryOf head past (turn stamp (Target t)) (Target t) (Act d) → Taught head.osts (line (turn stamp (Target t)) (Act d) ∷ past)
-  sized_taught t d ok entry = by
-    where
-      bare : d.reply.locks ≡ []
-      bare = sized_bare head.osts past (turn stamp (Target t)) d ok
-
-      later : Later head.osts past (line (turn stamp (Target t)) (Act d) ∷ past)
-      later =
-          record {
-            tree = λ p. same_refl (server_of head.osts past).tree p;
-            bound = le_refl (bound_of head.osts past);
-            committed = le_refl (server_of head.osts past).committed.0;
-            acted = λ e a. inr a;
-            made = λ e a m. ⊎_elim (λ (q : d ≡ e). absurd (let zero : e.reply.txn.0 ≡ 0 = ap (λ (x : Deed). x.reply.txn.0) (sym q ∙ ok.is) in omega (arith, zero, m))) (λ (b : Acted past e). b) a;
-            lost = λ n. refl;
-          }
-
-      by : Taught head.osts (line (turn stamp (Target t)) (Act d) ∷ past)
-      by e f (inl q, i) = absurd (none_taught d.op d.reply.answer f (subst (λ (ls : List Lock). In f (taught d.op d.reply.answer ls)) bare (subst (λ (x : Deed). In f (taught x.op x.reply.answer x.reply.locks)) (sym q) i)))
-      by e f (inr a, i) =
-          let u = h e f (a, i) in
-          under_line head past stamp (Target t) (Act d) entry all (le_refl (bound_of head.osts past)) e f a u
-          (λ fresh j. rests_later head.osts past (line (turn stamp (Target t)) (Act d) ∷ past) later e f (u.stands fresh (subst (λ (ls : List Lock). In u.lock (with_locks ls (server_of head.osts past).granted)) bare j)))
-
-  -- who gets a lock on an object is taught nothing, and that lock is new; and at the metadata target locks are shown that are granted already
-  grant_taught : (t : ℕ) (lock : Lock) (d : Deed) → GrantsOk head.osts past (turn stamp (Target t)) t lock d → Taught head.osts (line (turn stamp (Target t)) (Grant lock (Some d)) ∷ past)
-  grant_taught t lock d ok e f k = by (grant_acted head.osts past (turn stamp (Target t)) t lock d ok e k.0)
+  -- a line that only shows a lock that is granted
+  grant_taught : (t : ℕ) (lock : Lock) (d : Deed) → GrantOk head.osts past lock d → EntryOf head past (turn stamp (Target t)) (Target t) (Grant lock (Some d)) → Taught head.osts (line (turn stamp (Target t)) (Grant lock (Some d)) ∷ past)
+  grant_taught t lock d g ok e f k =
+      let a = old e k.0 in
+      let u = h e f (a, k.1) in
+      under_line head past stamp (Target t) (Grant lock (Some d)) ok all (le_refl (bound_of head.osts past)) e f a u
+      (λ fresh j. rests_later head.osts past new later e f (u.stands fresh (subst (λ (ls : List Lock). In u.lock ls) g.granted j)))
     where
       new : List Line
       new = line (turn stamp (Target t)) (Grant lock (Some d)) ∷ past
+
+      old : (x : Deed) → (Some d ≡ Some x) ⊎ Acted past x → Acted past x
+      old x (inl q) = subst (λ (y : Deed). Acted past y) (some_is d x q) (did_acted past d g.did)
+      old x (inr b) = b
 
       later : Later head.osts past new
       later =
@@ -412,28 +396,12 @@ module _ (head : Head) (past : List Line) (stamp : Stamp) (all : HoldsAt head pa
             bound = le_refl (bound_of head.osts past);
             committed = le_refl (server_of head.osts past).committed.0;
             acted = λ x a. inr a;
-            made = λ x a m. grant_made head.osts past (turn stamp (Target t)) t lock d ok x a m;
+            made = λ x a m. old x a;
             lost = λ n. refl;
           }
 
-      old : (l : Lock) → Acted past e → In l e.reply.locks → In l (with_lock lock (server_of head.osts past).granted) → GrantsOk head.osts past (turn stamp (Target t)) t lock d → In l (server_of head.osts past).granted
-      old l a i j (inl g) = subst (λ (ls : List Lock). In l ls) g.1.granted j
-      old l a i j (inr g) =
-          ⊎_elim
-          (λ (q : lock ≡ l). absurd
-          (let le = all.locks.low g.1.serves e l (a, of_reply e.op e.reply l i) in let next : l.cookie.0 ≡ (server_of head.osts past).cookie + 1 = ap (λ (x : Lock). x.cookie.0) (sym q ∙ g.1.of_lock) in omega (arith, le, next)))
-          (λ (m : In l (server_of head.osts past).granted). m)
-          (with_in lock l (server_of head.osts past).granted j)
-
-      by : Acted past e ⊎ ((d ≡ e) × RangeOk head.osts past (turn stamp (Target t)) lock e) → Under head.osts new e f
-      by (inl a) =
-          let u = h e f (a, k.1) in
-          under_line head past stamp (Target t) (Grant lock (Some d)) ok all (le_refl (bound_of head.osts past)) e f a u
-          (λ fresh j. rests_later head.osts past new later e f (u.stands fresh (old u.lock a u.among j ok)))
-      by (inr r) = absurd (none_taught e.op e.reply.answer f (subst (λ (ls : List Lock). In f (taught e.op e.reply.answer ls)) (range_bare head.osts past (turn stamp (Target t)) lock e r.1) k.1))
-
-  made_taught : (t : ℕ) (d : Deed) → EntryOf head past (turn stamp (Target t)) (Target t) (Made d) → Taught head.osts (line (turn stamp (Target t)) (Made d) ∷ past)
-  made_taught t d ok = subst (λ (x : Deed). Taught head.osts (line (turn stamp (Target t)) (Made x) ∷ past)) (sym ok.is) by
+  made_taught : (t : ℕ) (d : Deed) → TxnOk head.osts past (turn stamp (Target t)) d → EntryOf head past (turn stamp (Target t)) (Target t) (Made d) → Taught head.osts (line (turn stamp (Target t)) (Made d) ∷ past)
+  made_taught t d ok entry = subst (λ (x : Deed). Taught head.osts (line (turn stamp (Target t)) (Made x) ∷ past)) (sym ok.is) by
     where
       new : Deed
       new = making head past (turn stamp (Target t)) t ok.request all ok.free
@@ -442,40 +410,53 @@ module _ (head : Head) (past : List Line) (stamp : Stamp) (all : HoldsAt head pa
       by e f (inl q, i) = absurd (none_taught new.op new.reply.answer f (subst (λ (x : Deed). In f (taught x.op x.reply.answer x.reply.locks)) (sym q) i))
       by e f (inr a, i) =
           let u = h e f (a, i) in
-          under_line head past stamp (Target t) (Made new) (subst (λ (x : Deed). EntryOf head past (turn stamp (Target t)) (Target t) (Made x)) ok.is ok) all (omega arith) e f a u
+          under_line head past stamp (Target t) (Made new) (subst (λ (x : Deed). EntryOf head past (turn stamp (Target t)) (Target t) (Made x)) ok.is entry) all (omega arith) e f a u
           (λ fresh j. made_rests head past (turn stamp (Target t)) t ok.request all ok.free e f u j (u.stands fresh j))
 
-  pub line_taught : (node : Node) (e : Entry) → IsNoClose e → EntryOf head past (turn stamp node) node e → Taught head.osts (line (turn stamp node) e ∷ past)
-  line_taught (Target t) (Act d) none ok =
-      ⊎_elim
-      (λ (a : (t ≡ 0) × ActOk head.osts past (turn stamp (Target t)) d). act_taught t d a.1 ok)
-      (λ (a : (0 < t) × SizedOk head.osts past (turn stamp (Target t)) d). sized_taught t d a.1 ok)
-      ok
-  line_taught (Target t) (Grant lock (Some d)) none ok = grant_taught t lock d ok
-  line_taught (Target t) (Grant lock None) none ok = absurd ok
-  line_taught (Client c) (Grant lock asked) none ok = absurd ok
-  line_taught (Target t) (Made d) none ok = made_taught t d ok
-  line_taught (Target t) (Commit to batch) none ok =
+  -- nothing is done on an object, and no lock is waited for
+  pub line_taught : (node : Node) (e : Entry) → IsNoClose e → FirstOf past node e → EntryOf head past (turn stamp node) node e → Taught head.osts (line (turn stamp node) e ∷ past)
+  line_taught (Target t) (Act d) none z ok = by ok
+    where
+      by : ActsOk head.osts past (turn stamp (Target t)) t d → Taught head.osts (line (turn stamp (Target t)) (Act d) ∷ past)
+      by (inl a) = act_taught t d a.1 ok
+      by (inr a) = absurd (let high = a.0 in omega (arith, high, z))
+  line_taught (Target t) (Grant lock (Some d)) none z ok = by ok
+    where
+      by : GrantsOk head.osts past (turn stamp (Target t)) t lock d → Taught head.osts (line (turn stamp (Target t)) (Grant lock (Some d)) ∷ past)
+      by (inl g) = grant_taught t lock d g.1 ok
+      by (inr g) = absurd (let high = g.0 in omega (arith, high, z))
+  line_taught (Target t) (Grant lock None) none z ok = absurd (let high = ok.0 in omega (arith, high, z))
+  line_taught (Target t) (Wait lock d) none z ok = absurd (let high = ok.0 in omega (arith, high, z))
+  line_taught (Target t) (Answers d) none z ok = absurd (let high = ok.0 in omega (arith, high, z))
+  line_taught (Client c) (Grant lock asked) none z ok = absurd ok
+  line_taught (Client c) (Wait lock d) none z ok = absurd ok
+  line_taught (Client c) (Answers d) none z ok = absurd ok
+  line_taught (Target t) (Made d) none z ok = by ok
+    where
+      by : TxnsOk head.osts past (turn stamp (Target t)) t d → Taught head.osts (line (turn stamp (Target t)) (Made d) ∷ past)
+      by (inl m) = made_taught t d m.1 ok
+      by (inr m) = absurd (let high = m.0 in omega (arith, high, z))
+  line_taught (Target t) (Commit to batch) none z ok =
       later_taught head past stamp (Target t) (Commit to batch) ok all
       (record { tree = λ p. same_refl (server_of head.osts past).tree p; bound = le_refl (bound_of head.osts past); committed = commits_more head past (turn stamp (Target t)) to batch ok all; acted = λ d a. a; made = λ d a m. a; lost = λ n. refl })
       (λ l i. i) (λ d a. a) h
-  line_taught (Target t) (Evict who cause) none ok =
+  line_taught (Target t) (Evict who cause) none z ok =
       later_taught head past stamp (Target t) (Evict who cause) ok all
       (record { tree = λ p. same_forgot (server_of head.osts past).tree who p; bound = le_refl (bound_of head.osts past); committed = le_refl (server_of head.osts past).committed.0; acted = λ d a. a; made = λ d a m. a; lost = λ n. refl })
       (λ l i. left_in who (server_of head.osts past).granted l i) (λ d a. a) h
-  line_taught (Target t) (Release lock) none ok =
+  line_taught (Target t) (Release lock) none z ok =
       later_taught head past stamp (Target t) (Release lock) ok all
       (record { tree = λ p. same_refl (server_of head.osts past).tree p; bound = le_refl (bound_of head.osts past); committed = le_refl (server_of head.osts past).committed.0; acted = λ d a. a; made = λ d a m. a; lost = λ n. refl })
       (λ l i. (in_filter (λ (m : Lock). not (m.cookie.0 == lock.cookie.0)) l (server_of head.osts past).granted i).0) (λ d a. a) h
-  line_taught (Target t) (Boot boot disk) none ok =
+  line_taught (Target t) (Boot boot disk) none z ok =
       later_taught head past stamp (Target t) (Boot boot disk) ok all
       (record { tree = λ p. same_refl (server_of head.osts past).tree p; bound = let n = ok.next in let c = all.phase.count in omega (arith, n, c); committed = le_refl (server_of head.osts past).committed.0; acted = λ d a. a; made = λ d a m. a; lost = λ n. refl })
       (λ l i. i) (λ d a. a) h
-  line_taught (Target t) (Close o) none ok = absurd none
-  line_taught (Client c) (Act d) none ok = absurd ok
-  line_taught (Client c) (Made d) none ok = absurd ok
-  line_taught (Client c) (Close o) none ok = absurd ok
-  line_taught node e none ok =
+  line_taught (Target t) (Close o) none z ok = absurd none
+  line_taught (Client c) (Act d) none z ok = absurd ok
+  line_taught (Client c) (Made d) none z ok = absurd ok
+  line_taught (Client c) (Close o) none z ok = absurd ok
+  line_taught node e none z ok =
       later_taught head past stamp node e ok all
       (record { tree = λ p. same_refl (server_of head.osts past).tree p; bound = le_refl (bound_of head.osts past); committed = le_refl (server_of head.osts past).committed.0; acted = λ d a. a; made = λ d a m. a; lost = λ n. refl })
       (λ l i. i) (λ d a. a) h

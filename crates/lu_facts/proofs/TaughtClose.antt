@@ -30,14 +30,15 @@ use Rattle.lu_covered.specs.Heads.{Head}
 use Rattle.lu_guards.proofs.Guards.{In}
 use Rattle.lu_guards.proofs.StoryGuards.{CloseOk, EntryOf}
 use Rattle.lu_guards.proofs.Lists.{in_filter}
-use Rattle.lu_facts.proofs.Groups.{turn, Acted, IsMade, Stands, HeardAs, HasSlot, NoneOf, HoldsAt}
+use Rattle.lu_facts.proofs.Groups.{turn, Acted, IsMade, Stands, HeardAs, HasSlot, NoneOf, IsOver, HoldsAt}
 use Rattle.lu_guards.proofs.CloseLists.{puts_more, stays_all, in_restored}
 use Rattle.lu_facts.proofs.Brings.{of_reply}
 use Rattle.lu_facts.proofs.LockLists.{cookie_or, brought_again}
 use Rattle.lu_facts.proofs.KnownPaths.{IsPlaced, placed_reached}
 use Rattle.lu_facts.proofs.FactsStay.{Placed, tells_same}
 use Rattle.lu_facts.proofs.PartsStay.{Closed, AllSaw, OfKept, Saw, sound_now, stays, not_lost, closed_both, part_stays}
-use Rattle.lu_facts.proofs.Unheld.{Unheld, HeldHeard}
+use Rattle.lu_facts.proofs.Unheld.{HeldHeard}
+use Rattle.lu_facts.proofs.FirstDeeds.{FirstOf}
 use Rattle.lu_facts.proofs.Taught.{bound_of, Seat, SeatFor, Rests, Taught, granted_now, under_line, line_taught}
 
 -- ---- what a close decides of locks and lives
@@ -70,12 +71,12 @@ module _ (head : Head) (past : List Line) (stamp : Stamp) (t : ℕ) (o : Outcome
   stay_closed : Closed head.osts past stay
   stay_closed = closed_both head past stamp t o h next (λ n. true) up (record { root = refl; low = λ n le. refl; saw = λ e a m s k n i. refl })
 
-  module _ (d : Deed) (l : Lock) (a : Acted past d) (among : In l d.reply.locks) (stood : In l o.locks) (fresh : Unheld past d l → ⊥) where
+  module _ (d : Deed) (l : Lock) (a : Acted past d) (among : In l d.reply.locks) (stood : In l o.locks) (fresh : IsOver past d l → ⊥) where
     taken : In l (brought_of past) × (is_life l.ask.who (lives_in o.gone) ≡ false)
     taken = subst (λ (x : Outcome). In l x.locks → In l (brought_of past) × (is_life l.ask.who (lives_in x.gone) ≡ false)) (sym ok.is) (lock_stood head.osts head.clients (turn stamp (Target t)) past l) stood
 
     whose : l.ask.who ≡ d.reply.who
-    whose = h.locks.whose d l (a, of_reply d.op d.reply l among)
+    whose = h.locks.whose d l (a, inl (of_reply d.op d.reply l among))
 
     slot : HasSlot head.clients past d.reply.who
     slot = subst (λ (w : Who). HasSlot head.clients past w) whose (h.recovers.brought ok.recovers l taken.0).0
@@ -114,7 +115,7 @@ module _ (head : Head) (past : List Line) (stamp : Stamp) (t : ℕ) (o : Outcome
         let r = heard d.reply.who.client one.0 one.1 in
         let done = h.done.answered (life_of d.reply.who.client past) r.0 r.1 r.2 in
         let gives : In one.0.lock (brought done.0.op done.0.reply) = subst (λ (ls : List Lock). In one.0.lock ls) (ap (λ (o : Op). brought o r.1) done.5 ∙ brought_again done.0.op done.0.reply r.1 done.2) r.3 in
-        let it : d ≡ done.0 = (h.locks.once d done.0 l one.0.lock (a, of_reply d.op d.reply l among) (done.1, gives) (ap cookie_of (sym one.2))).0 in
+        let it : d ≡ done.0 = (h.locks.once d done.0 l one.0.lock (a, inl (of_reply d.op d.reply l among)) (done.1, inl gives) (ap cookie_of (sym one.2))).0 in
         let who : d.reply.who ≡ life_of d.reply.who.client past = ap (λ (v : Deed). v.reply.who) it ∙ ap (λ (v : ReplyTo). v.who) (sym done.2) ∙ done.3 in
         let seen : In n r.1.seen = subst (λ (ns : List ℕ). In n ns) (ap (λ (v : Deed). v.reply.seen) it ∙ ap (λ (v : ReplyTo). v.seen) (sym done.2)) i in
         let off : is_life d.reply.who (lives_in o.gone) ≡ false = subst (λ (w : Who). is_life w (lives_in o.gone) ≡ false) whose taken.1 in
@@ -191,8 +192,8 @@ module _ (head : Head) (past : List Line) (stamp : Stamp) (t : ℕ) (o : Outcome
 
 -- ---- all lines
 
-pub keeps_taught : (head : Head) (past : List Line) (stamp : Stamp) (node : Node) (e : Entry) → EntryOf head past (turn stamp node) node e → HoldsAt head past → HoldsAt head (line (turn stamp node) e ∷ past) → HeldHeard past
+pub keeps_taught : (head : Head) (past : List Line) (stamp : Stamp) (node : Node) (e : Entry) → FirstOf past node e → EntryOf head past (turn stamp node) node e → HoldsAt head past → HoldsAt head (line (turn stamp node) e ∷ past) → HeldHeard past
     → Taught head.osts past → Taught head.osts (line (turn stamp node) e ∷ past)
-keeps_taught head past stamp (Target t) (Close o) ok all next heard h = close_taught head past stamp t o ok all next heard h
-keeps_taught head past stamp (Client c) (Close o) ok all next heard h = absurd ok
-keeps_taught head past stamp node e ok all next heard h = line_taught head past stamp all h node e tt ok
+keeps_taught head past stamp (Target t) (Close o) of ok all next heard h = close_taught head past stamp t o ok all next heard h
+keeps_taught head past stamp (Client c) (Close o) of ok all next heard h = absurd ok
+keeps_taught head past stamp node e of ok all next heard h = line_taught head past stamp all h node e tt of ok

@@ -1,6 +1,6 @@
 -- A stat of a file that goes on with the reply that it just heard knows that file then: what the reply taught can be used since, under its
 -- locks, and all that can be used is true of one tree.
-use Rattle.std.proofs.Common.{◌≡◌, ℕ, Bool, true, List, [], ◌∷◌, ◌++◌, inl, inr, Some, refl, sym, subst, ap, ◌∙◌}
+use Rattle.std.proofs.Common.{◌≡◌, ℕ, Bool, true, false, List, [], ◌∷◌, ◌++◌, ◌⊎◌, inl, inr, Option, Some, refl, sym, subst, ap, ◌∙◌}
 use Rattle.std.specs.Prelude.{nat_eq, if◌then◌else◌}
 use Rattle.lu_base.specs.declared.ids.At.{At}
 use Rattle.lu_base.specs.declared.ids.Fid.{Fid}
@@ -14,6 +14,8 @@ use Rattle.lu_part.specs.declared.parts.Part.TheVariants as part
 use Rattle.lu_msg.specs.declared.answers.Answer.{Answer}
 use Rattle.lu_msg.specs.declared.answers.Answer.TheVariants as told
 use Rattle.lu_msg.specs.declared.calls.Call.TheVariants as call
+use Rattle.lu_msg.specs.declared.messages.Message.{Message}
+use Rattle.lu_msg.specs.declared.messages.Message.TheVariants as message
 use Rattle.lu_msg.specs.declared.messages.Reply.{Reply as ReplyTo}
 use Rattle.lu_msg.specs.declared.operations.Op.{Op}
 use Rattle.lu_msg.specs.declared.operations.Op.TheVariants as op
@@ -22,8 +24,8 @@ use Rattle.lu_machine.specs.declared.child.Child.{Child}
 use Rattle.lu_machine.specs.Tree.{Tree}
 use Rattle.lu_machine.specs.Table.{found}
 use Rattle.lu_machine.specs.Laws.{IsReading}
-use Rattle.lu_words.specs.Carried.{Deed, Flight, Plain, Sizes, Running}
-use Rattle.lu_words.specs.Words.{Entry, Heard, Hold, Drop, Life, Marks, Told, Learns, Line, line}
+use Rattle.lu_words.specs.Carried.{Deed, Flight, Plain, Running}
+use Rattle.lu_words.specs.Words.{Entry, Take, Heard, Hold, Drop, Life, Marks, Told, Learns, Line, line}
 use Rattle.lu_words.specs.Concerns.{only}
 use Rattle.lu_client_rows.specs.Caches.{granted_lock, brought, with_brought, held_at}
 use Rattle.lu_client_rows.specs.Facts as facts
@@ -32,16 +34,18 @@ use Rattle.lu_client_rows.specs.Known.{Notes, same_part, found_at_path}
 use Rattle.lu_covered.specs.Calls.{call_at, life_at, becomes, operation_of}
 use Rattle.lu_covered.specs.Known.{notes_at}
 use Rattle.lu_covered.specs.Heads.{Head}
-use Rattle.lu_guards.proofs.Guards.{In, HeardNow, Learned, ToldFile, EntryOk}
-use Rattle.lu_guards.proofs.Grown.{Grown}
+use Rattle.lu_guards.proofs.Guards.{In, HeardNow, Learned, TookNow, HoldsOk, GivenOk, ToldFile, EntryOk}
+use Rattle.lu_guards.proofs.StoryGuards.{HeldOk, GivenOf}
+use Rattle.lu_guards.proofs.Grown.{Allowed, Grown}
 use Rattle.lu_guards.proofs.Lists.{self, in_left}
 use Rattle.lu_guards.proofs.Only.{grown_of}
 use Rattle.lu_guards.proofs.ClientLines.{some_is}
-use Rattle.lu_facts.proofs.Groups.{turn, Flew, Acted, IsLocking, AnswersFor, HoldsAt}
+use Rattle.lu_facts.proofs.Groups.{turn, Flew, Acted, IsWorking, AnswersFor, HoldsAt}
 use Rattle.lu_facts.proofs.All.{holds_at, holds}
+use Rattle.lu_facts.proofs.FirstDeeds.{given_high}
 use Rattle.lu_facts.proofs.KnownPaths.{Tells, TellsName, TellsOf, part_is, Usable}
 use Rattle.lu_facts.proofs.Taught.{bound_of, tree_for}
-use Rattle.lu_facts.proofs.Known.{HeardBy, heard_answered, heard_by_story, now_heard, fact_stands}
+use Rattle.lu_facts.proofs.Known.{client_is, HeardBy, heard_answered, heard_by_story, now_heard, fact_stands}
 use Rattle.lu_facts.proofs.TaughtKnown.{Agrees, AllUsable, Comes, led, of_names, of_last, inode_fact, taught_under}
 use Rattle.lu_facts.proofs.Comes.{acted_comes}
 use Rattle.lu_facts.proofs.HeldThere.{There, IsClear, KeepsAll, keeps_facts, brought_new, clear_stays, clear_usable, facts_stay}
@@ -92,8 +96,20 @@ agrees head c past g d m f k u v p q =
 
 -- ---- what a reply taught
 
-client_is : (a b : ℕ) → Client a ≡ Client b → a ≡ b
-client_is a b e = cc
+-- the newest line took no message where a reply was just heard
+not_both : (past : List Line) (at now : At) (from : Node) (m : Message) (t : ℕ) (f : Flight) (r : ReplyTo) → TookNow past at from m → HeardNow past now t f r → ⊥
+not_both [] at now from m t f r took h = took
+not_both (l ∷ past) at now from m t f r took h = by l.entry took h
+  where
+    by : (e : Entry) → TookNow (line l.at e ∷ past) at from m → HeardNow (line l.at e ∷ past) now t f r → ⊥
+    by (Take n from m) took h = h
+    by e took h = took
+
+-- a lock that is held came with a reply, or is of an object
+hold_keeps : (head : Head) (past : List Line) (at : At) (c t : ℕ) (lock : Lock) (marked : Bool) (size : Option ℕ) (seen : List ℕ) → Grown head past → ((marked ≡ false) × HeldOk (only t past) c t lock seen) ⊎ GivenOf (only t past) c t lock seen
+    → KeepsAll (Hold t lock marked size seen)
+hold_keeps head past at c t lock marked size seen g (inl k) = inl k.0
+hold_keeps head past at c t lock marked size seen g (inr k) = inr (given_high head past c t lock seen g k)
 
 module _ (head : Head) (c : ℕ) (at : At) (own : at.node ≡ Client c) (f : Flight) (r : ReplyTo) where
   -- its locks are held and not called back
@@ -104,13 +120,18 @@ module _ (head : Head) (c : ℕ) (at : At) (own : at.node ≡ Client c) (f : Fli
   heard_clear [] g h = absurd h
   heard_clear (l ∷ past) g h = by l.at.node l.entry g.0.ok h (heard_clear past g.1)
     where
+      -- it came with the reply
+      came : (u : ℕ) (x : Lock) (marked : Bool) (size : Option ℕ) (seen : List ℕ) (d : ℕ) → HoldsOk past (turn l.at.stamp (Client d)) u x marked size seen ⊎ GivenOk past (turn l.at.stamp (Client d)) d u x marked size seen → HeardNow past at 0 f r → marked ≡ false
+      came u x marked size seen d (inl k) h = k.unmarked
+      came u x marked size seen d (inr k) h = absurd (not_both past (turn l.at.stamp (Client d)) at (Target u) (message.Grant k.notice) 0 f r k.took h)
+
       by : (node : Node) (e : Entry) → EntryOk past (turn l.at.stamp node) node e → HeardNow (line (turn l.at.stamp node) e ∷ past) at 0 f r → (HeardNow past at 0 f r → AllClear past)
           → AllClear (line (turn l.at.stamp node) e ∷ past)
       by (Client d) (Heard u x k) ok h ih = λ y i.
           let same : c ≡ d = client_is c d (sym own ∙ ap (λ (v : At). v.node) (sym h.0)) in
           subst (λ (b : Bool). There IsClear 0 y.cookie.0 (if b then with_brought u (brought x.op k) (held_at c past) else held_at c past)) (sym (ap (λ (v : ℕ). nat_eq c v) (sym same) ∙ self c))
           (brought_new IsClear (λ t z. refl) 0 u y (brought x.op k) (held_at c past) h.1 (in_left y k.locks (granted_lock x.op k k.answer) (subst (λ (v : ReplyTo). In y v.locks) (sym h.3) i)))
-      by (Client d) (Hold u x marked size seen) ok h ih = λ y i. clear_stays c past l.at.stamp 0 y.cookie.0 (Client d) (Hold u x marked size seen) ok tt (ih h y i)
+      by (Client d) (Hold u x marked size seen) ok h ih = λ y i. clear_stays c past l.at.stamp y.cookie.0 (Client d) (Hold u x marked size seen) ok (inl (came u x marked size seen d ok h)) (ih h y i)
       by (Target u) (Heard v x k) ok h ih = absurd ok
       by (Target u) (Hold v x marked size seen) ok h ih = absurd ok
       by _ _ ok h ih = absurd h
@@ -121,12 +142,12 @@ module _ (head : Head) (c : ℕ) (at : At) (own : at.node ≡ Client c) (f : Fli
 
   learned_knows : (past : List Line) → Grown head past → Learned past at 0 f r → Knows past
   learned_knows [] g h = absurd h
-  learned_knows (l ∷ past) g h = by l.at.node l.entry g.0.ok h (learned_knows past g.1)
+  learned_knows (l ∷ past) g h = by l.at.node l.entry g.0 h (learned_knows past g.1)
     where
       still : (node : Node) (e : Entry) → EntryOk past (turn l.at.stamp node) node e → KeepsAll e → Knows past → Knows (line (turn l.at.stamp node) e ∷ past)
-      still node e ok keeps k x i = let y = k x i in (facts_stay c past l.at.stamp x node e ok (keeps_facts e keeps) y.0, clear_stays c past l.at.stamp 0 x.cookie.0 node e ok keeps y.1)
+      still node e ok keeps k x i = let y = k x i in (facts_stay c past l.at.stamp x node e ok (keeps_facts e keeps) y.0, clear_stays c past l.at.stamp x.cookie.0 node e ok keeps y.1)
 
-      by : (node : Node) (e : Entry) → EntryOk past (turn l.at.stamp node) node e → Learned (line (turn l.at.stamp node) e ∷ past) at 0 f r → (Learned past at 0 f r → Knows past) → Knows (line (turn l.at.stamp node) e ∷ past)
+      by : (node : Node) (e : Entry) → Allowed head past (turn l.at.stamp node) e → Learned (line (turn l.at.stamp node) e ∷ past) at 0 f r → (Learned past at 0 f r → Knows past) → Knows (line (turn l.at.stamp node) e ∷ past)
       by node (Heard u x k) ok h ih = λ y i. absurd (taught_under f.op r.answer [] y (subst (λ (v : List Lock). In y (taught f.op r.answer v)) h.4 i)).1.0
       by (Client d) (Learns u o a locks) ok h ih = λ y i.
           let same : c ≡ d = client_is c d (sym own ∙ ap (λ (v : At). v.node) (sym h.0)) in
@@ -136,12 +157,14 @@ module _ (head : Head) (c : ℕ) (at : At) (own : at.node ≡ Client c) (f : Fli
                 (in_left y (taught o a locks) (facts_at c past) (subst (λ (v : List Fact). In y v) is i)),
             subst (λ (k : ℕ). There IsClear 0 k (held_at c past)) (sym under.1.1) (heard_clear past g.1 h.4 under.0 under.1.0),
           )
-      by (Target u) (Learns v o a locks) ok h ih = absurd ok
+      by (Target u) (Learns v o a locks) ok h ih = absurd ok.ok
       by node (Told slot named given work) ok h ih = absurd h
       by node (Marks name) ok h ih = absurd h
       by node (Drop u lock) ok h ih = absurd h
       by node (Life who) ok h ih = absurd h
-      by node e ok h ih = still node e ok tt (ih h)
+      by (Client d) (Hold u lock marked size seen) ok h ih = still (Client d) (Hold u lock marked size seen) ok.ok (hold_keeps head past (turn l.at.stamp (Client d)) d u lock marked size seen g.1 (ok.of u (self u))) (ih h)
+      by (Target v) (Hold u lock marked size seen) ok h ih = absurd ok.ok
+      by node e ok h ih = still node e ok.ok tt (ih h)
 
   learned_usable : (past : List Line) → Grown head past → Learned past at 0 f r → AllUsable (notes_at c past) (taught f.op r.answer r.locks)
   learned_usable past g h x i = let k = learned_knows past g h x i in (k.0, clear_usable x.cookie (held_at c past) k.1)
@@ -165,8 +188,7 @@ module _ (head : Head) (c : ℕ) (at : At) (own : at.node ≡ Client c) (f : Fli
 -- a call on names was answered by the metadata target
 pub plain_first : (r : Running) (t : ℕ) (o : Op) → AnswersFor r t o → r.stage ≡ Plain → (t ≡ 0) × (becomes r ≡ Some o)
 plain_first r t o (inl p) plain = (p.1, p.2)
-plain_first r t o (inr (inl p)) plain = let sizing : Sizes p.0 ≡ Plain = sym p.1 ∙ plain in absurd (cc)
-plain_first r t o (inr (inr p)) plain = absurd (subst IsLocking plain p.0)
+plain_first r t o (inr p) plain = absurd (subst IsWorking plain p.0)
 
 -- what was done for one request is of one operation
 one_op : (head : Head) (past : List Line) (d e : Deed) → HoldsAt head past → Acted past d → Acted past e → d.reply.who ≡ e.reply.who → d.reply.xid.0 ≡ e.reply.xid.0 → d.op ≡ e.op

@@ -1,5 +1,5 @@
--- What a client holds came with a reply that its present life heard. And a lock that it doesn't hold it never will, once the reply that brings it was heard
--- or the client knows a boot after the one that gave it: then that reply isn't heard any more.
+-- What a client holds of the metadata target came with a reply that its present life heard. And a lock that is over, which a client doesn't hold and never
+-- will, stays so.
 use Rattle.std.proofs.Common.{◌≡◌, ℕ, false, List, [], ◌∷◌, ◌⊎◌, inl, inr, ⊎_elim, refl, sym, subst, ap, ◌∙◌}
 use Rattle.std.specs.Prelude.{nat_eq, not}
 use Rattle.std.proofs.lemmas.Bool.{cond_both, eqb-true}
@@ -15,17 +15,20 @@ use Rattle.lu_held.specs.Locks.{is_named, named}
 use Rattle.lu_held.specs.Held.{without}
 use Rattle.lu_words.specs.Carried.{Deed, Flight}
 use Rattle.lu_words.specs.Words.{Entry, Heard, Hold, Drop, Life, Pins, Unpins, Marks, Unmarks, Line, line}
+use Rattle.lu_words.specs.Concerns.{concerns, only}
 use Rattle.lu_client_rows.specs.Caches.{held_as, with_brought, brought, held_at}
 use Rattle.lu_covered.specs.ClientStates.{life_of}
 use Rattle.lu_covered.specs.Heads.{Head}
 use Rattle.lu_guards.proofs.Guards.{In}
 use Rattle.lu_guards.proofs.StoryGuards.{HeardOk, EntryOf}
-use Rattle.lu_guards.proofs.Grown.{GrownOf}
+use Rattle.lu_guards.proofs.Grown.{Grown}
 use Rattle.lu_guards.proofs.Lists.{in_filter, own_self}
-use Rattle.lu_facts.proofs.Groups.{turn, Flew, HeardAs, RepliesTo, Gave, Dead, Lapsed, HoldsAt}
+use Rattle.lu_facts.proofs.Groups.{turn, Flew, HeardAs, RepliesTo, Gave, IsOver, HoldsAt}
 use Rattle.lu_facts.proofs.LockLists.{Kept, kept_same, brought_in}
-use Rattle.lu_facts.proofs.LocksStay.{pins_held, unpins_held, marks_held, unmarks_held, shown_held}
+use Rattle.lu_facts.proofs.LocksHeld.{pins_held, unpins_held, marks_held, unmarks_held, shown_held}
 use Rattle.lu_facts.proofs.Locks.{keeps_dead, keeps_lapsed}
+use Rattle.lu_facts.proofs.All.{holds}
+use Rattle.lu_facts.proofs.FirstDeeds.{FirstOf, first_line}
 
 -- ---- a reply that is heard is to what was done
 
@@ -80,18 +83,18 @@ module _ (head : Head) (past : List Line) (stamp : Stamp) where
       (λ q i. kept_same (held_at b past) h (in_filter (λ (g : HeldLock). not (is_named (named (record { 0 = t }) lock.cookie) g)) h (held_at b past) i).0)
       (λ q i. kept_same (held_at b past) h i)
 
-  pub held_before : (node : Node) (e : Entry) → EntryOf head past (turn stamp node) node e → HoldsAt head past → (b : ℕ) (h : HeldLock) → Held node e b h
-  held_before (Client c) (Heard t f r) ok all b h = heard_held c t f r ok all b h
-  held_before (Client c) (Hold t lock marked size seen) ok all b h = λ i. inl (shown_held past stamp c t lock marked size seen ok.1 b h i)
-  held_before (Client c) (Drop t lock) ok all b h = λ i. inl (dropped_held c t lock b h i)
-  held_before (Client c) (Pins name) ok all b h = λ i. inl (pins_held past stamp c name b h i)
-  held_before (Client c) (Unpins name) ok all b h = λ i. inl (unpins_held past stamp c name b h i)
-  held_before (Client c) (Marks name) ok all b h = λ i. inl (marks_held past stamp c name b h i)
-  held_before (Client c) (Unmarks t) ok all b h = λ i. inl (unmarks_held past stamp c t b h i)
-  held_before (Target t) (Heard u f r) ok all b h = absurd ok
-  held_before (Target t) (Hold u lock marked size seen) ok all b h = absurd ok
-  held_before (Target t) (Drop u lock) ok all b h = absurd ok
-  held_before node e ok all b h = λ i. inl (kept_same (held_at b past) h i)
+  held_before : (node : Node) (e : Entry) → EntryOf head past (turn stamp node) node e → FirstOf past node e → HoldsAt head past → (b : ℕ) (h : HeldLock) → Held node e b h
+  held_before (Client c) (Heard t f r) ok of all b h = heard_held c t f r ok all b h
+  held_before (Client c) (Hold t lock marked size seen) ok of all b h = λ i. inl (shown_held past stamp c t lock marked size seen of b h i)
+  held_before (Client c) (Drop t lock) ok of all b h = λ i. inl (dropped_held c t lock b h i)
+  held_before (Client c) (Pins name) ok of all b h = λ i. inl (pins_held past stamp c name b h i)
+  held_before (Client c) (Unpins name) ok of all b h = λ i. inl (unpins_held past stamp c name b h i)
+  held_before (Client c) (Marks name) ok of all b h = λ i. inl (marks_held past stamp c name b h i)
+  held_before (Client c) (Unmarks t) ok of all b h = λ i. inl (unmarks_held past stamp c t b h i)
+  held_before (Target t) (Heard u f r) ok of all b h = absurd ok
+  held_before (Target t) (Hold u lock marked size seen) ok of all b h = absurd ok
+  held_before (Target t) (Drop u lock) ok of all b h = absurd ok
+  held_before node e ok of all b h = λ i. inl (kept_same (held_at b past) h i)
 
 -- ---- what is held was heard
 
@@ -114,32 +117,35 @@ same_life_held head past stamp (Client b) (Life who) ok c g i =
 same_life_held head past stamp (Target t) (Life who) ok c g i = absurd ok
 same_life_held head past stamp node e ok c g i = refl
 
-pub held_heard : (head : Head) (past : List Line) → GrownOf head past → ((p : List Line) → GrownOf head p → HoldsAt head p) → HeldHeard past
-held_heard head [] g holds c h i = absurd i
-held_heard head (l ∷ past) g holds c h i = by l.at.node l.entry g.0 (holds past g.3) (held_heard head past g.3 holds c) i
+pub held_heard : (head : Head) (past : List Line) → Grown head past → HeldHeard (only 0 past)
+held_heard head [] g c h i = absurd i
+held_heard head (l ∷ past) g c h i =
+    cond_both (concerns 0 l.at.node l.entry) (l ∷ P) P Now
+    (λ o j. by l.at.node l.entry (g.0.of 0 o) (first_line head past l.at.stamp l.at.node l.entry g.1 g.0 o) (held_heard head past g.1 c) j)
+    (λ o j. held_heard head past g.1 c h j)
+    i
   where
-    Now : Node → Entry → Type 0
-    Now node e = (f : Flight) × (r : ReplyTo) × HeardAs (line (turn l.at.stamp node) e ∷ past) (life_of c (line (turn l.at.stamp node) e ∷ past)) f r × In h.lock (brought f.op r)
+    P : List Line
+    P = only 0 past
 
-    by : (node : Node) (e : Entry) → EntryOf head past (turn l.at.stamp node) node e → HoldsAt head past
-        → ((k : HeldLock) → In k (held_at c past) → (f : Flight) × (r : ReplyTo) × HeardAs past (life_of c past) f r × In k.lock (brought f.op r)) → In h (held_at c (line (turn l.at.stamp node) e ∷ past)) → Now node e
-    by node e ok all ih i = later (held_before head past l.at.stamp node e ok all c h i)
+    Now : List Line → Type 0
+    Now new = In h (held_at c new) → (f : Flight) × (r : ReplyTo) × HeardAs new (life_of c new) f r × In h.lock (brought f.op r)
+
+    by : (node : Node) (e : Entry) → EntryOf head P (turn l.at.stamp node) node e → FirstOf P node e → ((k : HeldLock) → In k (held_at c P) → (f : Flight) × (r : ReplyTo) × HeardAs P (life_of c P) f r × In k.lock (brought f.op r)) → Now (line (turn l.at.stamp node) e ∷ P)
+    by node e ok of old j = later (held_before head P l.at.stamp node e ok of ((holds head past g.1).at 0) c h j)
       where
         new : List Line
-        new = line (turn l.at.stamp node) e ∷ past
+        new = line (turn l.at.stamp node) e ∷ P
 
-        later : Kept (held_at c past) h ⊎ Comes past new c h → Now node e
+        later : Kept (held_at c P) h ⊎ Comes P new c h → (f : Flight) × (r : ReplyTo) × HeardAs new (life_of c new) f r × In h.lock (brought f.op r)
         later (inl k) =
-            let o = ih k.0 k.1 in
-            let life = same_life_held head past l.at.stamp node e ok c k.0 k.1 in
-            (o.0, o.1, subst (λ (w : Who). HeardAs new w o.0 o.1) (sym life) (heard_as_more (line (turn l.at.stamp node) e) past (life_of c past) o.0 o.1 o.2), subst (λ (v : Lock). In v (brought o.0.op o.1)) k.3 o.3)
+            let o = old k.0 k.1 in
+            let life = same_life_held head P l.at.stamp node e ok c k.0 k.1 in
+            (o.0, o.1, subst (λ (w : Who). HeardAs new w o.0 o.1) (sym life) (heard_as_more (line (turn l.at.stamp node) e) P (life_of c P) o.0 o.1 o.2), subst (λ (v : Lock). In v (brought o.0.op o.1)) k.3 o.3)
         later (inr k) = (k.flight, k.reply, subst (λ (w : Who). HeardAs new w k.flight k.reply) (sym k.life) k.heard, k.among)
 
--- ---- what isn't held, and never will be
+-- ---- what is over
 
-abbrev pub Unheld : List Line → Deed → Lock → Type 0
-Unheld past d l = Dead past d l ⊎ Lapsed past d l
-
-pub keeps_unheld : (head : Head) (past : List Line) (stamp : Stamp) (node : Node) (e : Entry) → EntryOf head past (turn stamp node) node e → HoldsAt head past → (d : Deed) (l : Lock) → Gave past d l → Unheld past d l → Unheld (line (turn stamp node) e ∷ past) d l
-keeps_unheld head past stamp node e ok all d l gave (inl x) = inl (keeps_dead head past stamp node e ok all d l gave x)
-keeps_unheld head past stamp node e ok all d l gave (inr x) = inr (keeps_lapsed head past stamp node e ok all d l gave x)
+pub keeps_over : (head : Head) (past : List Line) (stamp : Stamp) (node : Node) (e : Entry) → EntryOf head past (turn stamp node) node e → HoldsAt head past → (d : Deed) (l : Lock) → Gave past d l → IsOver past d l → IsOver (line (turn stamp node) e ∷ past) d l
+keeps_over head past stamp node e ok all d l gave (inl x) = inl (keeps_dead head past stamp all node e ok d l gave x)
+keeps_over head past stamp node e ok all d l gave (inr x) = inr (keeps_lapsed head past stamp all node e ok d l gave x)

@@ -1,7 +1,8 @@
--- Where each call that reads names misses what calls make, the metadata target grants no lock, and so calls none back; nor ever does another target.
-use Rattle.std.proofs.Common.{◌≡◌, ℕ, Bool, true, false, List, [], ◌∷◌, ◌++◌, inl, inr, ⊎_elim, refl, sym, subst, ap, ◌∙◌}
+-- Where each call that reads names misses what calls make, the metadata target grants no lock, and so calls none back; nor does another target where nothing
+-- is written.
+use Rattle.std.proofs.Common.{◌≡◌, ℕ, ◌<◌, Bool, true, false, List, [], ◌∷◌, ◌++◌, Some, inl, inr, ⊎_elim, refl, sym, subst, ap, ◌∙◌, arith}
 use Rattle.std.specs.Prelude.{nat_eq, not, if◌then◌else◌, filter}
-use Rattle.std.proofs.lemmas.Bool.{eqb-true}
+use Rattle.std.proofs.lemmas.Bool.{cond_both, eqb-true}
 use Rattle.lu_base.specs.declared.ids.At.{At}
 use Rattle.lu_base.specs.declared.ids.Node.{Node}
 use Rattle.lu_base.specs.declared.ids.Node.TheVariants.{Client, Target}
@@ -12,8 +13,8 @@ use Rattle.lu_msg.specs.declared.calls.Call.TheVariants as call
 use Rattle.lu_machine.specs.Footprint.{grants}
 use Rattle.lu_part.specs.declared.parts.Want.{Want}
 use Rattle.lu_words.specs.Carried.{Deed, Called}
-use Rattle.lu_words.specs.Words.{Entry, Act, Txn, Grant, Block, Release, Evict, Close, Line, line}
-use Rattle.lu_words.specs.Concerns.{only}
+use Rattle.lu_words.specs.Words.{Entry, Act, Txn, Grant, Wait, Answers, Block, Release, Evict, Close, Line, line}
+use Rattle.lu_words.specs.Concerns.{concerns, only}
 use Rattle.lu_target_rows.specs.Lives.{is_life}
 use Rattle.lu_target_rows.specs.Locks.{called_without}
 use Rattle.lu_target_rows.specs.Names.{locks_from}
@@ -22,16 +23,17 @@ use Rattle.lu_covered.specs.Heads.{Head}
 use Rattle.lu_covered.specs.Makes.{Path, Misses}
 use Rattle.lu_covered.specs.TargetStates.{none, granted_at, called_at, server_of}
 use Rattle.lu_guards.proofs.Guards.{In, EntryOk}
-use Rattle.lu_guards.proofs.StoryGuards.{ActOk, ActsOk, RangeOk}
-use Rattle.lu_guards.proofs.Acts.{sized_bare, range_bare}
+use Rattle.lu_guards.proofs.StoryGuards.{ActOk, ActsOk, GrantsOk, BlockOk, WayOk}
+use Rattle.lu_guards.proofs.Acts.{sized_bare, range_bare, made}
 use Rattle.lu_guards.proofs.Grown.{Allowed, Grown}
 use Rattle.lu_guards.proofs.Lists.{self}
 use Rattle.lu_guards.proofs.Parts.{granted_is, tree_is}
+use Rattle.lu_guards.proofs.ClientLines.{some_is}
 use Rattle.lu_facts.proofs.Groups.{turn, Acted}
-use Rattle.lu_facts.proofs.Lines.{acted_whole}
 use Rattle.lu_facts.proofs.All.{holds}
-use Rattle.lu_facts.proofs.GrantLines.{grant_either}
-use Rattle.lu_facts.proofs.Sides.{acted_only, names_bring}
+use Rattle.lu_facts.proofs.DoneGrows.{did_acted}
+use Rattle.lu_facts.proofs.FirstDeeds.{first_gave}
+use Rattle.lu_facts.proofs.BareGuards.{BareOk, BareGrown}
 use Rattle.lu_facts.proofs.Asked.{Began, began_more, AskedBy, acted_asked}
 use Rattle.lu_facts.proofs.Finds.{Made_in, granted_none}
 
@@ -60,32 +62,42 @@ act_none head past l g m at d ok a =
     ap (λ t. grants head.osts t (asked ok.request none)) (sym (tree_is head.osts 0 past)) ∙ granted_none head past g ok.request.who ok.request.op (subst (AskedBy past) same a) (all_before l past m) in
     ap (λ (y : Deed). y.reply.locks) ok.is ∙ ap (λ (ws : List Want). locks_from v.cookie ok.request.who ws) free
 
--- and nothing that was done gave any on names
-gives_none : (head : Head) (past : List Line) → Grown head past → AllMiss past → (d : Deed) → Acted past d → d.reply.locks ≡ []
+-- and nothing that the metadata target did gave any
+gives_none : (head : Head) (past : List Line) → Grown head past → AllMiss past → (d : Deed) → Acted (only 0 past) d → d.reply.locks ≡ []
 gives_none head [] g m d a = absurd a
-gives_none head (l ∷ past) g m d a = by l.at.node l.entry g.0 (λ x b at. acted_asked head (l ∷ past) x g (acted_only head (l ∷ past) x 0 g b at)) a (gives_none head past g.1 (all_before l past m) d)
+gives_none head (l ∷ past) g m d a =
+    cond_both (concerns 0 l.at.node l.entry) (l ∷ only 0 past) (only 0 past) (λ (p : List Line). Acted p d → None)
+    (λ o b. by l.at.node l.entry g.0 o b (acted_asked head (l ∷ past) d g a) (gives_none head past g.1 (all_before l past m) d))
+    (λ o b. gives_none head past g.1 (all_before l past m) d b)
+    a
   where
-    -- the metadata target grants none, and another one never does
-    acts : (u : ℕ) (x : Deed) → ActsOk head.osts (only u past) (turn l.at.stamp (Target u)) u x → (x.reply.at.node ≡ Target 0 → AskedBy past x.op) → x.reply.locks ≡ []
-    acts u x (inl a) asks =
-        act_none head past l g.1 m (turn l.at.stamp (Target u)) x (subst (λ (v : ℕ). ActOk head.osts (only v past) (turn l.at.stamp (Target u)) x) a.0 a.1) (asks (ap (λ (y : Deed). y.reply.at.node) a.1.is ∙ ap Target a.0))
-    acts u x (inr a) asks = sized_bare head.osts (only u past) (turn l.at.stamp (Target u)) x a.1
+    None : Type 0
+    None = d.reply.locks ≡ []
 
-    by : (node : Node) (e : Entry) → Allowed head past (turn l.at.stamp node) e → ((x : Deed) → Acted (line l.at e ∷ past) x → x.reply.at.node ≡ Target 0 → AskedBy (line l.at e ∷ past) x.op)
-        → Acted (line l.at e ∷ past) d → (Acted past d → d.reply.locks ≡ [])
-        → d.reply.locks ≡ []
-    by (Target u) (Act x) k asks (inl q) more = ap (λ (y : Deed). y.reply.locks) (sym q) ∙ acts u x (k.of u (self u)) (asks x (inl refl))
-    by (Target u) (Act x) k asks (inr b) more = more b
-    by (Target u) (Txn x) k asks (inl q) more = ap (λ (y : Deed). y.reply.locks) (sym q) ∙ ap (λ (y : Deed). y.reply.locks) (k.of u (self u)).is
-    by (Target u) (Txn x) k asks (inr b) more = more b
-    by (Target u) (Grant lock asked) k asks (inl q) more = ⊎_elim more
-        (λ (r : RangeOk head.osts (only u past) (turn l.at.stamp (Target u)) lock d). range_bare head.osts (only u past) (turn l.at.stamp (Target u)) lock d r)
-        (grant_either head past l.at.stamp u lock asked d k q)
-    by (Target u) (Grant lock asked) k asks (inr b) more = more b
-    by (Client c) (Grant lock asked) k asks b more = absurd k.ok
-    by (Client c) (Act x) k asks b more = absurd k.ok
-    by (Client c) (Txn x) k asks b more = absurd k.ok
-    by node e k asks b more = more b
+    acts : (u : ℕ) (x : Deed) → nat_eq 0 u ≡ true → x ≡ d → ActsOk head.osts (only 0 past) (turn l.at.stamp (Target u)) u x → AskedBy past d.op → None
+    acts u x o p (inl k) asks = act_none head past l g.1 m (turn l.at.stamp (Target u)) d (subst (λ (y : Deed). ActOk head.osts (only 0 past) (turn l.at.stamp (Target u)) y) p k.1) asks
+    acts u x o p (inr k) asks = ap (λ (y : Deed). y.reply.locks) (sym p) ∙ sized_bare head.osts (only 0 past) (turn l.at.stamp (Target u)) x k.1
+
+    granted : (u : ℕ) (lock : Lock) (x : Deed) → x ≡ d → GrantsOk head.osts (only 0 past) (turn l.at.stamp (Target u)) u lock x → (Acted (only 0 past) d → None) → None
+    granted u lock x p (inl k) more = more (subst (λ (y : Deed). Acted (only 0 past) y) p (did_acted (only 0 past) x k.1.did))
+    granted u lock x p (inr k) more = ap (λ (y : Deed). y.reply.locks) (sym p) ∙ range_bare head.osts (only 0 past) (turn l.at.stamp (Target u)) lock x k.1
+
+    by : (node : Node) (e : Entry) → Allowed head past (turn l.at.stamp node) e → concerns 0 node e ≡ true → Acted (line (turn l.at.stamp node) e ∷ only 0 past) d → AskedBy (line (turn l.at.stamp node) e ∷ past) d.op → (Acted (only 0 past) d → None) → None
+    by (Client c) (Grant lock asked) k o b asks more = absurd k.ok
+    by (Client c) (Act x) k o b asks more = absurd k.ok
+    by (Client c) (Txn x) k o b asks more = absurd k.ok
+    by (Client c) (Wait lock x) k o b asks more = absurd k.ok
+    by (Client c) (Answers x) k o b asks more = absurd k.ok
+    by (Target u) (Act x) k o (inl p) asks more = acts u x o p (k.of 0 o) asks
+    by (Target u) (Act x) k o (inr b) asks more = more b
+    by (Target u) (Txn x) k o (inl p) asks more = ap (λ (y : Deed). y.reply.locks) (sym p) ∙ (made head.osts (only 0 past) (turn l.at.stamp (Target u)) u x (k.of 0 o)).bare
+    by (Target u) (Txn x) k o (inr b) asks more = more b
+    by (Target u) (Grant lock (Some x)) k o (inl p) asks more = granted u lock x (some_is x d p) (k.of 0 o) more
+    by (Target u) (Grant lock asked) k o (inl p) asks more = absurd (cc)
+    by (Target u) (Grant lock asked) k o (inr b) asks more = more b
+    by (Target u) (Wait lock x) k o b asks more = absurd (let high = (k.of 0 o).0 in let z = eqb-true 0 u o in omega (arith, high, z))
+    by (Target u) (Answers x) k o b asks more = absurd (let high = (k.of 0 o).0 in let z = eqb-true 0 u o in omega (arith, high, z))
+    by node e k o b asks more = more b
 
 -- ---- so the metadata target grants none
 
@@ -96,7 +108,7 @@ none_in (l ∷ ls) empty = absurd (empty l (inl refl))
 none_granted : (head : Head) (past : List Line) → Grown head past → AllMiss past → (server_of head.osts (only 0 past)).granted ≡ []
 none_granted head past g m =
     none_in (server_of head.osts (only 0 past)).granted
-    (λ l i. let r = ((holds head past g).at 0).locks.granted l i in subst (λ (ls : List Lock). In l ls) (names_bring head past r.0 g r.1.0 ∙ gives_none head past g m r.0 (acted_whole 0 past r.0 r.1.0)) r.1.1)
+    (λ l i. let r = ((holds head past g).at 0).locks.granted l i in subst (λ (ls : List Lock). In l ls) (gives_none head past g m r.0 r.1.0) (first_gave head past r.0 l g r.1))
 
 -- ---- and calls none back
 
@@ -137,17 +149,19 @@ uncalled head (l ∷ past) g m = still_uncalled past l.at.stamp l.at.node l.entr
     free : (called : Called) → l.at.node ≡ Target 0 → l.entry ≡ Block called → ⊥
     free called n e =
         let k : Allowed head past (turn l.at.stamp (Target 0)) (Block called) = subst (λ (v : Entry). Allowed head past (turn l.at.stamp (Target 0)) v) e (subst (λ (v : Node). Allowed head past (turn l.at.stamp v) l.entry) n g.0) in
-        let ok = k.of 0 (self 0) in
-        subst (λ (ls : List Lock). In ok.lock ls) (none_granted head past g.1 (all_before l past m)) ok.granted
+        ⊎_elim
+        (λ (ok : (0 ≡ 0) × BlockOk head.osts (only 0 past) called). subst (λ (ls : List Lock). In ok.1.lock ls) (none_granted head past g.1 (all_before l past m)) ok.1.granted)
+        (λ (ok : (0 < 0) × WayOk head.osts (only 0 past) called). let high = ok.0 in omega (arith, high))
+        (k.of 0 (self 0))
 
 pub unlocked : (head : Head) (past : List Line) → Grown head past → AllMiss past → (granted_at 0 past ≡ []) × (called_at 0 past ≡ [])
 unlocked head past g m = (granted_is head.osts 0 past ∙ none_granted head past g m, uncalled head past g m)
 
--- ---- other targets call none back
+-- ---- other targets call none back, where nothing was written
 
-pub uncalled_other : (head : Head) (past : List Line) → Grown head past → (t : ℕ) → (t ≡ 0 → ⊥) → called_at t past ≡ []
+pub uncalled_other : (head : Head) (past : List Line) → BareGrown head past → (t : ℕ) → (t ≡ 0 → ⊥) → called_at t past ≡ []
 uncalled_other head [] g t other = refl
 uncalled_other head (l ∷ past) g t other =
-    still_uncalled past l.at.stamp l.at.node l.entry t g.0.ok
-    (λ called n e. other (subst (λ (v : Entry). EntryOk past (turn l.at.stamp (Target t)) (Target t) v) e (subst (λ (v : Node). EntryOk past (turn l.at.stamp v) v l.entry) n g.0.ok)))
+    still_uncalled past l.at.stamp l.at.node l.entry t g.0.wide.ok
+    (λ called n e. other (subst (λ (v : Entry). BareOk past (turn l.at.stamp (Target t)) (Target t) v) e (subst (λ (v : Node). BareOk past (turn l.at.stamp v) v l.entry) n g.0.ok)))
     (uncalled_other head past g.1 t other)
