@@ -1,6 +1,6 @@
 -- The law of acts holds of the printed past of every grown one, for all lives that will be out and all numbers
 -- that will be lost, as far as none of a deed that is told is.
-use Rattle.std.proofs.Common.{◌≡◌, ℕ, suc, ◌≤◌, Bool, List, [], ◌∷◌, Some, None, ◌⊎◌, inl, inr, ⊎_elim, refl, sym, subst, ap, ◌∙◌, arith}
+use Rattle.std.proofs.Common.{◌≡◌, ℕ, suc, ◌≤◌, Bool, List, [], ◌∷◌, ◌⊎◌, inl, inr, ⊎_elim, refl, sym, subst, ap, ◌∙◌, arith}
 use Rattle.std.specs.Prelude.{nat_eq, not, ◌&&◌, true, false}
 use Rattle.lu_trace.specs.declared.entries.Entry.TheVariants as trace
 use Rattle.std.proofs.lemmas.Bool.{and_parts, cond_both, eqb-true, or_left, or_right, or_cases, not-true}
@@ -10,26 +10,27 @@ use Rattle.lu_base.specs.declared.ids.Node.TheVariants.{Client, Target}
 use Rattle.lu_base.specs.declared.ids.Stamp.{Stamp}
 use Rattle.lu_base.specs.declared.ids.Txn.{Txn as TxnOf}
 use Rattle.lu_base.specs.declared.ids.Who.{Who}
-use Rattle.lu_base.specs.declared.locks.Lock.{Lock}
 use Rattle.lu_machine.specs.Tree.{same_life}
 use Rattle.lu_words.specs.Carried.{Deed}
-use Rattle.lu_words.specs.Words.{Entry, Act, Txn as Made, Grant, Line, line}
-use Rattle.lu_words.specs.Concerns.{only}
+use Rattle.lu_words.specs.Words.{Entry, Act, Txn as Made, Grant, Wait, Answers as Responds, Line, line}
+use Rattle.lu_words.specs.Concerns.{concerns, only}
 use Rattle.lu_words.specs.Printed.{printed}
 use Rattle.lu_covered.specs.Heads.{Head}
 use Rattle.lu_laws.specs.Words.Pasts as pasts
 use Rattle.lu_laws.specs.Laws.Acts.{acts_there, acted, made, standing_count}
+use Rattle.lu_laws.proofs.Tests.{target_is as of_target}
 use Rattle.lu_lawful.specs.Fits.{ReplyStands}
-use Rattle.lu_guards.proofs.Guards.{EntryOk}
 use Rattle.lu_guards.proofs.Grown.{Allowed, Grown}
+use Rattle.lu_guards.proofs.ClientLines.{some_is}
 use Rattle.lu_guards.proofs.Lists.{self, life_is}
 use Rattle.lu_facts.proofs.Groups.{turn, Acted, IsMade, Stands as StandsSoFar}
-use Rattle.lu_facts.proofs.Lines.{acted_more}
-use Rattle.lu_lawful.proofs.Story.{target_is, made_story}
-use Rattle.lu_lawful.proofs.Deeds.{act_for, txn_is}
+use Rattle.lu_facts.proofs.Lines.{DoneBy, acted_line, acted_more}
+use Rattle.lu_facts.proofs.Sides.{IsReported}
+use Rattle.lu_lawful.proofs.Story.{target_is}
+use Rattle.lu_lawful.proofs.Deeds.{act_for, txn_for}
 use Rattle.lu_lawful.proofs.Turns.{same_turn_is}
 use Rattle.lu_lawful.proofs.Lost.{stood_before}
-use Rattle.lu_lawful.proofs.Once.{NoneFor, NoneNow, act_now, txn_now, grant_now, granted_first, txn_first}
+use Rattle.lu_lawful.proofs.Once.{NoneFor, DoesNow, act_now, txn_now, granted_first, wait_high, responds_high, done_now}
 
 -- ---- each request acts once in the whole trace
 
@@ -37,96 +38,99 @@ pub act_zero : (head : Head) (past : List Line) (stamp : Stamp) (node : Node) (d
 act_zero head past stamp (Client c) d k = absurd k.ok
 act_zero head past stamp (Target t) d k = ap (λ (n : TxnOf). n.0) (act_for head past stamp t d k).number
 
-made_now : (head : Head) (past : List Line) (stamp : Stamp) (node : Node) (d : Deed) → Allowed head past (turn stamp node) (Made d) → Grown head past → IsMade d
-made_now head past stamp (Client c) d k g = absurd k.ok
-made_now head past stamp (Target t) d k g = let n = (txn_is head past stamp t d k).number in omega (arith, n)
+made_now : (head : Head) (past : List Line) (stamp : Stamp) (node : Node) (d : Deed) → Allowed head past (turn stamp node) (Made d) → IsMade d
+made_now head past stamp (Client c) d k = absurd k.ok
+made_now head past stamp (Target t) d k = let n = ap (λ (v : TxnOf). v.0) (txn_for head past stamp t d k).number in omega (arith, n)
 
--- what was done in one turn for one request is one thing
-pub one_turn : (head : Head) (past : List Line) (d e : Deed) → Grown head past → Acted past d → Acted past e → d.reply.at ≡ e.reply.at → d.reply.who ≡ e.reply.who → d.reply.xid.0 ≡ e.reply.xid.0 → d ≡ e
-one_turn head [] d e g a b at who xid = absurd a
-one_turn head (l ∷ past) d e g a b at who xid = by l.entry g.0 a b (λ a b. one_turn head past d e g.1 a b at who xid)
+-- what a target did in one turn for one request is one thing
+pub one_turn : (head : Head) (past : List Line) (t : ℕ) (d e : Deed) → Grown head past → d.reply.at.node ≡ Target t → Acted past d → Acted past e → d.reply.at ≡ e.reply.at → d.reply.who ≡ e.reply.who → d.reply.xid.0 ≡ e.reply.xid.0 → d ≡ e
+one_turn head [] t d e g here a b at who xid = absurd a
+one_turn head (l ∷ past) t d e g here a b at who xid = either (λ p q. one_turn head past t d e g.1 here p q at who xid)
   where
+    one : (x : Entry) → DoneBy x d → DoneBy x e → d ≡ e
+    one (Act x) p q = sym p ∙ q
+    one (Made x) p q = sym p ∙ q
+    one (Grant lock asked) p q = some_is d e (sym p ∙ q)
+    one (Wait lock x) p q = sym p ∙ q
+    one (Responds x) p q = sym p ∙ q
+    one _ p q = absurd p
+
     -- one was done now, the other before
-    first : (x : Deed) → x.reply.at ≡ l.at → NoneNow head past l.at x.reply.who x.reply.xid.0 → (x ≡ d) ⊎ Acted past d → (x ≡ e) ⊎ Acted past e → (Acted past d → Acted past e → d ≡ e) → d ≡ e
-    first x now none (inl p) (inl q) ih = sym p ∙ q
-    first x now none (inl p) (inr b) ih = absurd (none e b (sym at ∙ ap (λ (v : Deed). v.reply.at) (sym p) ∙ now) (sym who ∙ ap (λ (v : Deed). v.reply.who) (sym p)) (sym xid ∙ ap (λ (v : Deed). v.reply.xid.0) (sym p)))
-    first x now none (inr a) (inl q) ih = absurd (none d a (at ∙ ap (λ (v : Deed). v.reply.at) (sym q) ∙ now) (who ∙ ap (λ (v : Deed). v.reply.who) (sym q)) (xid ∙ ap (λ (v : Deed). v.reply.xid.0) (sym q)))
-    first x now none (inr a) (inr b) ih = ih a b
+    was : (x y : Deed) → x.reply.at.node ≡ Target t → DoneBy l.entry x → x.reply.at ≡ y.reply.at → x.reply.who ≡ y.reply.who → x.reply.xid.0 ≡ y.reply.xid.0 → Acted past y → (Acted past x → x ≡ y) → x ≡ y
+    was x y node p when life n old ih = ⊎_elim ih
+        (⊎_elim
+        (λ (now : DoesNow head past l.at x). absurd (now.now y old (sym when ∙ now.turn) (sym life) (sym n)))
+        (λ (r : IsReported x). absurd (let other : Client r.client ≡ Target t = sym r.node ∙ node in cc)))
+        (done_now head past l.at.stamp l.at.node l.entry x g.0 g.1 p)
 
-    none_granted : (at : At) (node : Node) (lock : Lock) → EntryOk past at node (Grant lock None) → ⊥
-    none_granted at (Client c) lock ok = ok
-    none_granted at (Target t) lock ok = ok
+    either : (Acted past d → Acted past e → d ≡ e) → d ≡ e
+    either ih = ⊎_elim
+        (λ (p : DoneBy l.entry d). ⊎_elim
+        (λ (q : DoneBy l.entry e). one l.entry p q)
+        (λ (q : Acted past e). was d e here p at who xid q (λ x. ih x q))
+        (acted_line l.at l.entry past e b))
+        (λ (p : Acted past d). ⊎_elim
+        (λ (q : DoneBy l.entry e). sym (was e d (sym (ap (λ (v : At). v.node) at) ∙ here) q (sym at) (sym who) (sym xid) p (λ x. sym (ih p x))))
+        (λ (q : Acted past e). ih p q)
+        (acted_line l.at l.entry past e b))
+        (acted_line l.at l.entry past d a)
 
-    by : (x : Entry) → Allowed head past l.at x → Acted (line l.at x ∷ past) d → Acted (line l.at x ∷ past) e → (Acted past d → Acted past e → d ≡ e) → d ≡ e
-    by (Act x) k a b ih = let does = act_now head past l.at.stamp l.at.node x k g.1 in first x does.turn does.now a b ih
-    by (Made x) k a b ih = let does = txn_now head past l.at.stamp l.at.node x k g.1 in first x does.turn does.now a b ih
-    by (Grant lock None) k a b ih = absurd (none_granted l.at l.at.node lock k.ok)
-    by (Grant lock (Some x)) k a b ih = ⊎_elim
-        (λ (old : Acted past x). ih (was x old a) (was x old b))
-        (λ p. first x p.1.turn p.1.now (is_or x a) (is_or x b) ih)
-        (grant_now head past l.at.stamp l.at.node lock (Some x) x k refl g.1)
-      where
-        one : (x y : Deed) → Some x ≡ Some y → x ≡ y
-        one x y q = cc
+-- what a target did, did it in a longer past
+pub acted_on : (t : ℕ) (l : Line) (past : List Line) (d : Deed) → Acted (only t past) d → Acted (only t (l ∷ past)) d
+acted_on t l past d a = cond_both (concerns t l.at.node l.entry) (l ∷ only t past) (only t past) (λ (p : List Line). Acted p d) (λ o. acted_more l.at l.entry (only t past) d a) (λ o. a)
 
-        is_or : (x : Deed) {y : Deed} → (Some x ≡ Some y) ⊎ Acted past y → (x ≡ y) ⊎ Acted past y
-        is_or x {y} (inl q) = inl (one x y q)
-        is_or x (inr o) = inr o
-
-        was : (x : Deed) → Acted past x → {y : Deed} → (Some x ≡ Some y) ⊎ Acted past y → Acted past y
-        was x old {y} (inl q) = subst (Acted past) (one x y q) old
-        was x old (inr o) = o
-    by x k a b ih = ih a b
-
-module _ (lost : ℕ → ℕ → Bool) (who : Who) (x : ℕ) where
+module _ (lost : ℕ → ℕ → Bool) (t : ℕ) (who : Who) (x : ℕ) where
   -- no transaction of the request stands at the end
   abbrev pub NoneLeft : List Line → Type 0
-  NoneLeft past = (d : Deed) → Acted past d → IsMade d → lost 0 d.reply.txn.0 ≡ false → d.reply.who ≡ who → d.reply.xid.0 ≡ x → ⊥
+  NoneLeft past = (d : Deed) → Acted (only t past) d → IsMade d → lost t d.reply.txn.0 ≡ false → d.reply.who ≡ who → d.reply.xid.0 ≡ x → ⊥
 
-  counted : (l : Line) (d : Deed) → (pasts.is_target 0 l.at.node && same_life d.reply.who who && nat_eq d.reply.xid.0 x && not (lost 0 d.reply.txn.0)) ≡ true → (d.reply.who ≡ who) × (d.reply.xid.0 ≡ x) × (lost 0 d.reply.txn.0 ≡ false)
-  counted l d t =
-      let a = and_parts (pasts.is_target 0 l.at.node && same_life d.reply.who who && nat_eq d.reply.xid.0 x) _ t in
-      let b = and_parts (pasts.is_target 0 l.at.node && same_life d.reply.who who) _ a.0 in
-      let c = and_parts (pasts.is_target 0 l.at.node) _ b.0 in
-      (life_is d.reply.who who c.1, eqb-true d.reply.xid.0 x b.1, not-true (lost 0 d.reply.txn.0) a.1)
+  abbrev counts : Node → Deed → Bool
+  counts node d = pasts.is_target t node && same_life d.reply.who who && nat_eq d.reply.xid.0 x && not (lost t d.reply.txn.0)
 
-  pub none_counts : (head : Head) (past : List Line) → Grown head past → NoneLeft past → standing_count lost 0 who x (printed past) ≡ 0
+  counted : (node : Node) (d : Deed) → counts node d ≡ true → (node ≡ Target t) × (d.reply.who ≡ who) × (d.reply.xid.0 ≡ x) × (lost t d.reply.txn.0 ≡ false)
+  counted node d e =
+      let a = and_parts (pasts.is_target t node && same_life d.reply.who who && nat_eq d.reply.xid.0 x) _ e in
+      let b = and_parts (pasts.is_target t node && same_life d.reply.who who) _ a.0 in
+      let c = and_parts (pasts.is_target t node) _ b.0 in
+      (of_target t node c.0, life_is d.reply.who who c.1, eqb-true d.reply.xid.0 x b.1, not-true (lost t d.reply.txn.0) a.1)
+
+  -- a transaction that counts is in the target's story
+  now : (past : List Line) (at : At) (d : Deed) → at.node ≡ Target t → Acted (only t (line at (Made d) ∷ past)) d
+  now past at d here = cond_both (concerns t at.node (Made d)) (line at (Made d) ∷ only t past) (only t past) (λ (p : List Line). Acted p d) (λ o. inl refl)
+      (λ o. absurd (let is = ap (λ (n : Node). concerns t n (Made d)) here ∙ self t in cc))
+
+  pub none_counts : (head : Head) (past : List Line) → Grown head past → NoneLeft past → standing_count lost t who x (printed past) ≡ 0
   none_counts head [] g n = refl
-  none_counts head (l ∷ past) g n = by l.at.node l.entry g.0 (none_counts head past g.1) n
+  none_counts head (l ∷ past) g n = by l.at.node l.entry g.0 (none_counts head past g.1 (λ d a. n d (acted_on t l past d a))) n
     where
-      by : (node : Node) (e : Entry) → Allowed head past (turn l.at.stamp node) e → (NoneLeft past → standing_count lost 0 who x (printed past) ≡ 0) → NoneLeft (line (turn l.at.stamp node) e ∷ past) → standing_count lost 0 who x (printed (line (turn l.at.stamp node) e ∷ past)) ≡ 0
-      by node (Made d) k h n =
-          let at : Line = line (turn l.at.stamp node) (Made d) in
-          cond_both (pasts.is_target 0 node && same_life d.reply.who who && nat_eq d.reply.xid.0 x && not (lost 0 d.reply.txn.0)) (suc (standing_count lost 0 who x (printed past))) (standing_count lost 0 who x (printed past)) (λ (v : ℕ). v ≡ 0)
-          (λ t. let c = counted at d t in absurd (n d (inl refl) (made_now head past l.at.stamp node d k g.1) c.2 c.0 c.1))
-          (λ t. h (λ e a. n e (inr a)))
-      by node (Act d) k h n = h (λ e a. n e (inr a))
-      by node (Grant lock asked) k h n = h (λ e a. n e (inr a))
-      by node e k h n = h n
+      by : (node : Node) (e : Entry) → Allowed head past (turn l.at.stamp node) e → standing_count lost t who x (printed past) ≡ 0 → NoneLeft (line (turn l.at.stamp node) e ∷ past) → standing_count lost t who x (printed (line (turn l.at.stamp node) e ∷ past)) ≡ 0
+      by node (Made d) k h n = cond_both (counts node d) (suc (standing_count lost t who x (printed past))) (standing_count lost t who x (printed past)) (λ (v : ℕ). v ≡ 0)
+          (λ e. let c = counted node d e in absurd (n d (now past (turn l.at.stamp node) d c.0) (made_now head past l.at.stamp node d k) c.3 c.1 c.2))
+          (λ e. h)
+      by node e k h n = h
 
   -- at most one transaction counts
-  pub at_most : (head : Head) (past : List Line) → Grown head past → ((d : Deed) → Acted past d → IsMade d → lost 0 d.reply.txn.0 ≡ false → StandsSoFar head.osts (only 0 past) d) → standing_count lost 0 who x (printed past) ≤ 1
+  pub at_most : (head : Head) (past : List Line) → Grown head past → ((d : Deed) → Acted (only t past) d → IsMade d → lost t d.reply.txn.0 ≡ false → StandsSoFar head.osts (only t past) d) → standing_count lost t who x (printed past) ≤ 1
   at_most head [] g stands = omega arith
-  at_most head (l ∷ past) g stands = by l.at.node l.entry g.0 stands (at_most head past g.1)
+  at_most head (l ∷ past) g stands = by l.at.node l.entry g.0 (at_most head past g.1 earlier) stands
     where
-      earlier : (node : Node) (e : Entry) → ((d : Deed) → Acted (line (turn l.at.stamp node) e ∷ past) d → IsMade d → lost 0 d.reply.txn.0 ≡ false → StandsSoFar head.osts (only 0 (line (turn l.at.stamp node) e ∷ past)) d) → (d : Deed) → Acted past d → IsMade d → lost 0 d.reply.txn.0 ≡ false → StandsSoFar head.osts (only 0 past) d
-      earlier node e stands d a made stays = stood_before head.osts (line (turn l.at.stamp node) e) past d.reply.txn.0 (stands d (acted_more (turn l.at.stamp node) e past d a) made stays)
+      earlier : (d : Deed) → Acted (only t past) d → IsMade d → lost t d.reply.txn.0 ≡ false → StandsSoFar head.osts (only t past) d
+      earlier d a made stays = stood_before head.osts t l past d.reply.txn.0 (stands d (acted_on t l past d a) made stays)
 
-      by : (node : Node) (e : Entry) → Allowed head past (turn l.at.stamp node) e → ((d : Deed) → Acted (line (turn l.at.stamp node) e ∷ past) d → IsMade d → lost 0 d.reply.txn.0 ≡ false → StandsSoFar head.osts (only 0 (line (turn l.at.stamp node) e ∷ past)) d)
-          → (((d : Deed) → Acted past d → IsMade d → lost 0 d.reply.txn.0 ≡ false → StandsSoFar head.osts (only 0 past) d) → standing_count lost 0 who x (printed past) ≤ 1) → standing_count lost 0 who x (printed (line (turn l.at.stamp node) e ∷ past)) ≤ 1
-      by node (Made d) ok stands h =
+      by : (node : Node) (e : Entry) → Allowed head past (turn l.at.stamp node) e → standing_count lost t who x (printed past) ≤ 1
+          → ((d : Deed) → Acted (only t (line (turn l.at.stamp node) e ∷ past)) d → IsMade d → lost t d.reply.txn.0 ≡ false → StandsSoFar head.osts (only t (line (turn l.at.stamp node) e ∷ past)) d)
+          → standing_count lost t who x (printed (line (turn l.at.stamp node) e ∷ past)) ≤ 1
+      by node (Made d) ok h stands =
           let does = txn_now head past l.at.stamp node d ok g.1 in
-          let first : does.target ≡ 0 = target_is does.target 0 (sym does.here ∙ txn_first head past l.at.stamp node d ok) in
-          let at : Line = line (turn l.at.stamp node) (Made d) in
-          cond_both (pasts.is_target 0 node && same_life d.reply.who who && nat_eq d.reply.xid.0 x && not (lost 0 d.reply.txn.0)) (suc (standing_count lost 0 who x (printed past))) (standing_count lost 0 who x (printed past)) (λ (v : ℕ). v ≤ 1)
-          (λ t.
-          let c = counted at d t in
-          let none : NoneLeft past = λ e a made stays p q.
-          (subst (λ (v : ℕ). NoneFor head past v d.reply.who d.reply.xid.0) first does.new) e (made_story head past e g.1 a made) (inr (made, earlier node (Made d) stands e a made stays)) (p ∙ sym c.0) (q ∙ sym c.1) in
+          cond_both (counts node d) (suc (standing_count lost t who x (printed past))) (standing_count lost t who x (printed past)) (λ (v : ℕ). v ≤ 1)
+          (λ e.
+          let c = counted node d e in
+          let new : NoneFor head past t d.reply.who d.reply.xid.0 = subst (λ (v : ℕ). NoneFor head past v d.reply.who d.reply.xid.0) (target_is does.target t (sym does.here ∙ c.0)) does.new in
+          let none : NoneLeft past = λ e a made stays p q. new e a (inr (made, earlier e a made stays)) (p ∙ sym c.1) (q ∙ sym c.2) in
           let z = none_counts head past g.1 none in
           omega (arith, z))
-          (λ t. h (earlier node (Made d) stands))
-      by node e ok stands h = h (earlier node e stands)
+          (λ e. h)
+      by node e ok h stands = h
 
 -- ---- an act of the printed past is one of the full one
 
@@ -162,7 +166,7 @@ own_line at turn who x same node =
     (subst (λ (n : Node). (pasts.is_target 0 n && pasts.same_turn (record { stamp = at.stamp; node = n }) (record { stamp = at.stamp; node = n }) && same_life who who && nat_eq x x) ≡ true) (sym node)
     (rw (self at.stamp.0, self who.client, self who.life, self x) refl))
 
-pub acted_in : (head : Head) (lost : ℕ → ℕ → Bool) (past : List Line) → Grown head past → (d : Deed) → d.reply.at.node ≡ Target 0 → Acted past d → ReplyStands lost d.reply → Stands lost past d
+pub acted_in : (head : Head) (lost : ℕ → ℕ → Bool) (past : List Line) → Grown head past → (d : Deed) → d.reply.at.node ≡ Target 0 → Acted past d → ReplyStands (lost 0) d.reply → Stands lost past d
 acted_in head lost [] g d first a s = absurd a
 acted_in head lost (l ∷ past) g d first a s = by l.entry g.0 (λ i. acted_in head lost past g.1 d first i s) a
   where
@@ -195,4 +199,8 @@ acted_in head lost (l ∷ past) g d first a s = by l.entry g.0 (λ i. acted_in h
         and_both {a = false} {b} p q = absurd (cc)
     by (Grant lock asked) ok h (inl q) = h (granted_first head past l.at.stamp l.at.node lock asked d ok q g.1 first)
     by (Grant lock asked) ok h (inr i) = h i
+    by (Wait lock e) ok h (inl p) = absurd (wait_high head past l.at.stamp l.at.node lock e ok g.1 (ap (λ (v : Deed). v.reply.at.node) p ∙ first))
+    by (Wait lock e) ok h (inr i) = h i
+    by (Responds e) ok h (inl p) = absurd (responds_high head past l.at.stamp l.at.node e ok g.1 (ap (λ (v : Deed). v.reply.at.node) p ∙ first))
+    by (Responds e) ok h (inr i) = h i
     by _ ok h a = h a

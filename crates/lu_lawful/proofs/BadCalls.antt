@@ -11,7 +11,7 @@ use Rattle.lu_msg.specs.declared.answers.Errno.TheVariants.{EBADF}
 use Rattle.lu_msg.specs.declared.calls.Call.{Call}
 use Rattle.lu_msg.specs.declared.calls.Call.TheVariants as call
 use Rattle.lu_trace.specs.declared.entries.Line.{Line as PrintedLine}
-use Rattle.lu_words.specs.Carried.{Unasked, Answered, Stage, Plain, Bad, Work, Running}
+use Rattle.lu_words.specs.Carried.{Unasked, Answered, Stage, Plain, Bad, Flushing, Work, Running}
 use Rattle.lu_words.specs.Words.{Entry, Begin, Told, Line, line}
 use Rattle.lu_words.specs.Sent.{count_sent}
 use Rattle.lu_words.specs.Printed.{printed_entry}
@@ -22,14 +22,14 @@ use Rattle.lu_covered.specs.Heads.{Head}
 use Rattle.lu_laws.specs.Words.Later.{told_later}
 use Rattle.lu_laws.specs.Words.Pasts.{same_turn}
 use Rattle.lu_laws.specs.Laws.Acts.{tells_bad}
-use Rattle.lu_guards.proofs.Guards.{Begins, BeginOk, Starts, OwesBegun, Owes, EntryOk}
+use Rattle.lu_guards.proofs.Guards.{Begins, BeginOk, FlushFrom, Starts, OwesBegun, Owes, EntryOk}
 use Rattle.lu_guards.proofs.Grown.{Grown}
 use Rattle.lu_guards.proofs.Lists.{self}
 use Rattle.lu_guards.proofs.Turns.{BeginQuiet, Settled}
 use Rattle.lu_facts.proofs.Groups.{turn}
 use Rattle.lu_lawful.proofs.Turns.{same_turn_self}
 use Rattle.lu_lawful.proofs.Lines.{shown}
-use Rattle.lu_lawful.proofs.Printed.{far_good}
+use Rattle.lu_lawful.proofs.Printed.{far_good, changes_good}
 use Rattle.lu_guards.proofs.Ends.{none_took}
 use Rattle.lu_guards.proofs.ClientLines.{some_is}
 
@@ -61,6 +61,13 @@ bad_told head past stamp c slot running named given work g ok bad tells = by tel
         of (inl p) = let no = p.1 in absurd (cc)
         of (inr p) = p.0
 
+    good : (r : Running) → call_at c slot (line (turn stamp (Client c)) (Begin slot running) ∷ past) ≡ Some r → (r.stage ≡ Bad → ⊥) → given ≡ told.Refused EBADF
+    good r call fine = absurd (fine (ap (λ (v : Running). v.stage) (some_is r running (sym call ∙ stands)) ∙ bad))
+
+    flush_good : (r : Running) (from : ℕ) → FlushFrom (turn stamp (Client c)) r from → r.stage ≡ Bad → ⊥
+    flush_good r from (inl p) q = let e : Plain ≡ Bad = sym p.0 ∙ q in absurd (cc)
+    flush_good r from (inr p) q = let e : Flushing from ≡ Bad = sym p ∙ q in absurd (cc)
+
     by : EntryOk (line (turn stamp (Client c)) (Begin slot running) ∷ past) (turn stamp (Client c)) (Client c) (Told slot named given work) → given ≡ told.Refused EBADF
     by (inl a) =
         let same = some_is a.running running (sym a.call ∙ stands) in
@@ -72,19 +79,11 @@ bad_told head past stamp c slot running named given work g ok bad tells = by tel
         absurd (bad_unknown (notes_at c (line (turn stamp (Client c)) (Begin slot running) ∷ past)) c past running.call given on_bad (ap (λ (v : Running). known_answer (notes_at c (line (turn stamp (Client c)) (Begin slot running) ∷ past)) v.call) (sym same) ∙ a.known))
     by (inr (inr (inl a))) = absurd (none_took head past (turn stamp (Client c)) (Target a.notice.target) _ g ok.later a.notice.took)
     by (inr (inr (inr (inl a)))) = a.of_answer
-    by (inr (inr (inr (inr (inl a))))) =
-        let same = some_is a.running running (sym a.call ∙ stands) in
-        absurd (far_good (line (turn stamp (Client c)) (Begin slot running) ∷ past) (turn stamp (Client c)) a.running a.sizes a.so_far (ap (λ (v : Running). v.stage) same ∙ bad))
-    by (inr (inr (inr (inr (inr (inr (inl a))))))) =
-        let same = some_is a.running running (sym a.call ∙ stands) in
-        absurd (a.read.good (ap (λ (v : Running). v.stage) same ∙ bad))
-    by (inr (inr (inr (inr (inr (inr (inr a))))))) =
-        let same = some_is a.running running (sym a.call ∙ stands) in
-        absurd (a.stat.good (ap (λ (v : Running). v.stage) same ∙ bad))
-    by (inr (inr (inr (inr (inr (inl a)))))) =
-        let same = some_is a.running running (sym a.call ∙ stands) in
-        let plain : Plain ≡ Bad = sym a.good ∙ ap (λ (v : Running). v.stage) same ∙ bad in
-        absurd (cc)
+    by (inr (inr (inr (inr (inl a))))) = good a.running a.call (far_good (line (turn stamp (Client c)) (Begin slot running) ∷ past) (turn stamp (Client c)) a.running a.sizes a.has.so_far)
+    by (inr (inr (inr (inr (inr (inl a)))))) = good a.running a.call (flush_good a.running a.from a.goes)
+    by (inr (inr (inr (inr (inr (inr (inl a))))))) = good a.running a.call a.does.read.good
+    by (inr (inr (inr (inr (inr (inr (inr (inl a)))))))) = good a.running a.call a.stat.good
+    by (inr (inr (inr (inr (inr (inr (inr (inr a)))))))) = good a.running a.call (changes_good a.running a.done a.does)
 
 -- ---- what a call that begins owes
 

@@ -19,7 +19,7 @@ use Rattle.lu_trace.specs.declared.entries.Entry.{Entry as PrintedEntry}
 use Rattle.lu_trace.specs.declared.entries.Entry.TheVariants as trace
 use Rattle.lu_trace.specs.declared.entries.Line.{Line as PrintedLine}
 use Rattle.lu_machine.specs.Footprint.{Every}
-use Rattle.lu_words.specs.Carried.{Deed, Gone, Outcome}
+use Rattle.lu_words.specs.Carried.{Deed, Flight, Gone, Outcome}
 use Rattle.lu_words.specs.Words.{Entry, Take, Close, Kept, Evict, Line, line, same_life}
 use Rattle.lu_words.specs.Concerns.{concerns, only}
 use Rattle.lu_words.specs.Printed.{printed_entry, printed}
@@ -47,7 +47,8 @@ use Rattle.lu_guards.proofs.Lists.{self, in_append, in_filter, in_filtered, life
 use Rattle.lu_guards.proofs.LifeLists.{stands_life}
 use Rattle.lu_guards.proofs.Only.{grown_of}
 use Rattle.lu_guards.proofs.ClientRests.{in_reverse}
-use Rattle.lu_facts.proofs.Groups.{turn, Acted, HasSlot, Evicted, IsMade, Stands, HoldsAt}
+use Rattle.lu_facts.proofs.Groups.{turn, Acted, HeardAs, SawIn, HasSlot, Evicted, IsMade, Stands, HoldsAt}
+use Rattle.lu_facts.proofs.Keeps.{saw_done}
 use Rattle.lu_facts.proofs.All.{holds}
 use Rattle.lu_facts.proofs.Exact as exact
 use Rattle.lu_facts.proofs.Exact.{kept_then, committed_then}
@@ -309,41 +310,39 @@ module _ (clients : ℕ) (head : Head) (t : ℕ) (past : List Line) (stamp : Sta
 
   -- it rests on what is lost
   rests_law : (who : Who) → HasSlot head.clients (only t past) who → Rests who → rests_on t (printed past) who lost ≡ true
-  rests_law who has r = ⊎_elim of_number of_seen r.3
+  rests_law who has = ⊎_elim (λ r. of_number r.0 r.1 r.2 r.3) (λ s. of_seen s.0 s.1 s.2)
     where
       at_one : (n : ℕ) → In n lost → (heard_number t who n (printed past) || saw t who n (printed past)) ≡ true → rests_on t (printed past) who lost ≡ true
       at_one n i e = any_passes (λ (m : ℕ). heard_number t who m (printed past) || saw t who m (printed past)) n lost i e
 
-      stood : (story.is_lost head.osts (only t past) r.1.txn.0 ≡ false) × ((n : ℕ) → In n r.1.seen → story.is_lost head.osts (only t past) n ≡ false)
-      stood = h.history.heard who r.0 r.1 r.2 has
-
-      of_number : gone r.1.txn.0 ≡ true → rests_on t (printed past) who lost ≡ true
-      of_number e =
-          let d = h.done.answered who r.0 r.1 r.2 in
-          let number : r.1.txn.0 ≡ d.0.reply.txn.0 = ap (λ (x : ReplyTo). x.txn.0) d.2 in
-          let above = (exact.lost_parts head (only t past) ok.recovers h (turn stamp (Target t)) r.1.txn.0 e).0 in
+      of_number : (f : Flight) (r : ReplyTo) → HeardAs (only t past) who f r → gone r.txn.0 ≡ true → rests_on t (printed past) who lost ≡ true
+      of_number f r j e =
+          let d = h.done.answered who f r j in
+          let number : r.txn.0 ≡ d.0.reply.txn.0 = ap (λ (x : ReplyTo). x.txn.0) d.2 in
+          let above = (exact.lost_parts head (only t past) ok.recovers h (turn stamp (Target t)) r.txn.0 e).0 in
           let made : IsMade d.0 = omega (arith, above, number) in
-          let i : In d.0.reply.txn.0 lost = gone_lost d.0 d.1 made (subst (λ (n : ℕ). story.is_lost head.osts (only t past) n ≡ false) number stood.0) (subst (λ (n : ℕ). gone n ≡ true) number e) in
-          at_one d.0.reply.txn.0 i (or_left (heard_number t who d.0.reply.txn.0 (printed past)) (saw t who d.0.reply.txn.0 (printed past)) (number_law t who d.0.reply.txn.0 head past g r.0 r.1 r.2 number))
+          let i : In d.0.reply.txn.0 lost =
+          gone_lost d.0 d.1 made (subst (λ (n : ℕ). story.is_lost head.osts (only t past) n ≡ false) number (h.history.heard who f r j has).0) (subst (λ (n : ℕ). gone n ≡ true) number e)
+          in
+          at_one d.0.reply.txn.0 i (or_left (heard_number t who d.0.reply.txn.0 (printed past)) (saw t who d.0.reply.txn.0 (printed past)) (number_law t who d.0.reply.txn.0 head past g f r j number))
 
-      of_seen : ((n : ℕ) × In n r.1.seen × (gone n ≡ true)) → rests_on t (printed past) who lost ≡ true
-      of_seen s =
-          let d = h.done.answered who r.0 r.1 r.2 in
-          let above = (exact.lost_parts head (only t past) ok.recovers h (turn stamp (Target t)) s.0 s.2).0 in
+      of_seen : (n : ℕ) → SawIn (only t past) who n → gone n ≡ true → rests_on t (printed past) who lost ≡ true
+      of_seen n j e =
+          let above = (exact.lost_parts head (only t past) ok.recovers h (turn stamp (Target t)) n e).0 in
           ⊎_elim
-          (λ (le : s.0 ≤ (server_of head.osts (only t past)).committed.0). absurd (omega (arith, above, le)))
-          (λ (e : (e : Deed) × Acted (only t past) e × IsMade e × (e.reply.txn.0 ≡ s.0)).
-          let i : In s.0 lost = subst (λ (n : ℕ). In n lost) e.3 (gone_lost e.0 e.1 e.2 (subst (λ (n : ℕ). story.is_lost head.osts (only t past) n ≡ false) (sym e.3) (stood.1 s.0 s.1)) (subst (λ (n : ℕ). gone n ≡ true) (sym e.3) s.2)) in
-          at_one s.0 i (or_right (heard_number t who s.0 (printed past)) (saw t who s.0 (printed past)) (saw_law t who s.0 head past g r.0 r.1 r.2 s.1)))
-          (h.history.saw d.0 s.0 d.1 (subst (λ (x : ReplyTo). In s.0 x.seen) d.2 s.1)).0
+          (λ (le : n ≤ (server_of head.osts (only t past)).committed.0). absurd (omega (arith, above, le)))
+          (λ (d : (d : Deed) × Acted (only t past) d × IsMade d × (d.reply.txn.0 ≡ n)).
+          let i : In n lost = subst (λ (m : ℕ). In m lost) d.3 (gone_lost d.0 d.1 d.2 (subst (λ (m : ℕ). story.is_lost head.osts (only t past) m ≡ false) (sym d.3) (h.history.held who n j has)) (subst (λ (m : ℕ). gone m ≡ true) (sym d.3) e)) in
+          at_one n i (or_right (heard_number t who n (printed past)) (saw t who n (printed past)) (saw_law n t who head past g j)))
+          (saw_done head (only t past) h who n j)
 
   law_rests : (who : Who) → rests_on t (printed past) who lost ≡ true → Rests who
   law_rests who e =
       let a = any_true (λ (n : ℕ). heard_number t who n (printed past) || saw t who n (printed past)) lost e in
       let out = lost_gone a.0 a.1 in
       ⊎_elim
-      (λ (x : heard_number t who a.0 (printed past) ≡ true). let r = law_number t who a.0 head past g x in (r.0, r.1, r.2, inl (subst (λ (n : ℕ). gone n ≡ true) (sym r.3) out)))
-      (λ (x : saw t who a.0 (printed past) ≡ true). let r = law_saw t who a.0 head past g x in (r.0, r.1, r.2, inr (a.0, r.3, out)))
+      (λ (x : heard_number t who a.0 (printed past) ≡ true). let r = law_number t who a.0 head past g x in inl (r.0, r.1, r.2, subst (λ (n : ℕ). gone n ≡ true) (sym r.3) out))
+      (λ (x : saw t who a.0 (printed past) ≡ true). inr (a.0, law_saw a.0 t who head past g x, out))
       (or_cases (heard_number t who a.0 (printed past)) (saw t who a.0 (printed past)) a.2)
 
   abbrev away : Who → Bool

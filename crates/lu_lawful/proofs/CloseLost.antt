@@ -1,6 +1,6 @@
 -- What closes have lost: by the laws, of the transactions in rising order, what can't be replayed or saw what is lost; by the story, what isn't kept. Of
 -- the numbers of transactions both say the same.
-use Rattle.std.proofs.Common.{◌≡◌, ℕ, ◌<◌, ◌≤◌, Bool, true, false, List, [], ◌∷◌, ◌++◌, Some, None, ◌⊎◌, inl, inr, ⊎_elim, refl, sym, subst, ap, ◌∙◌, arith}
+use Rattle.std.proofs.Common.{◌≡◌, ℕ, ◌<◌, ◌≤◌, Bool, true, false, List, [], ◌∷◌, ◌++◌, ◌⊎◌, inl, inr, ⊎_elim, refl, sym, subst, ap, ◌∙◌, arith}
 use Rattle.std.specs.Prelude.{nat_eq, nat_lt, not, ◌||◌, if◌then◌else◌, filter}
 use Rattle.std.specs.List.{list_any}
 use Rattle.std.proofs.lemmas.Bool.Decides.{nat_tests}
@@ -10,7 +10,7 @@ use Rattle.lu_base.specs.declared.ids.Node.{Node}
 use Rattle.lu_base.specs.declared.ids.Node.TheVariants.{Client, Target}
 use Rattle.lu_base.specs.declared.ids.Txn.{Txn as TxnOf}
 use Rattle.lu_words.specs.Carried.{Deed}
-use Rattle.lu_words.specs.Words.{Entry, Act, Txn as Made, Grant, Line, line}
+use Rattle.lu_words.specs.Words.{Entry, Txn as Made, Line, line}
 use Rattle.lu_words.specs.Concerns.{concerns, only}
 use Rattle.lu_words.specs.Printed.{printed}
 use Rattle.lu_target_rows.specs.Windows.{has_number}
@@ -18,8 +18,7 @@ use Rattle.lu_covered.specs.TargetCloses as story
 use Rattle.lu_covered.specs.Heads.{Head}
 use Rattle.lu_laws.specs.Words.Lost.{Transaction, transactions, is_among, lost_of}
 use Rattle.lu_guards.proofs.Guards.{In, EntryOk}
-use Rattle.lu_guards.proofs.StoryGuards.{IsRecovering, EntryOf, TxnOk}
-use Rattle.lu_guards.proofs.Acts.{acted}
+use Rattle.lu_guards.proofs.StoryGuards.{IsRecovering, EntryOf, TxnsOk}
 use Rattle.lu_guards.proofs.Grown.{Grown, GrownOf}
 use Rattle.lu_guards.proofs.ClientLocks.{any_true, any_passes}
 use Rattle.lu_guards.proofs.Lists.{self, in_filter}
@@ -28,7 +27,9 @@ use Rattle.lu_facts.proofs.All.{holds_at}
 use Rattle.lu_facts.proofs.Exact as exact
 use Rattle.lu_facts.proofs.Exact.{IsBack, HeardBy, kept_then, committed_then}
 use Rattle.lu_facts.proofs.ExactLists.{AllStand}
-use Rattle.lu_facts.proofs.GrantLines.{grant_made}
+use Rattle.lu_facts.proofs.Lines.{acted_more}
+use Rattle.lu_facts.proofs.ObjectDeeds.{makes}
+use Rattle.lu_lawful.proofs.NewDeeds.{client_acted, made_new}
 use Rattle.lu_lawful.proofs.Printed.{flip}
 
 -- ---- the transactions of a target, the newest first
@@ -85,43 +86,36 @@ module _ (head : Head) where
   made_acted (l ∷ past) g d i = by l.at.node l.entry g.0 i (made_acted past g.3 d)
     where
       by : (node : Node) (e : Entry) → EntryOf head past (turn l.at.stamp node) node e → In d (made_of (line (turn l.at.stamp node) e ∷ past)) → (In d (made_of past) → Acted past d × IsMade d) → Acted (line (turn l.at.stamp node) e ∷ past) d × IsMade d
-      by (Target t) (Made e) ok (inl q) h = (inl q, let n = ap (λ (v : Deed). v.reply.txn.0) (sym q ∙ ok.is) in omega (arith, n))
+      by (Target t) (Made e) ok (inl q) h =
+          (inl q, let n = ap (λ (v : Deed). v.reply.txn.0) (sym q) in let is = ap (λ (v : TxnOf). v.0) (makes head.osts past (turn l.at.stamp (Target t)) t e ok).number in omega (arith, n, is))
       by (Target t) (Made e) ok (inr i) h = let r = h i in (inr r.0, r.1)
-      by (Target t) (Act e) ok i h = let r = h i in (inr r.0, r.1)
-      by (Target t) (Grant lock asked) ok i h = let r = h i in (inr r.0, r.1)
-      by (Client c) (Made e) ok i h = absurd ok
-      by (Client c) (Act e) ok i h = absurd ok
-      by (Client c) (Grant lock asked) ok i h = absurd ok
-      by (Client c) e ok i h = h i
-      by (Target t) e ok i h = h i
+      by (Target t) e ok i h = let r = h i in (acted_more (turn l.at.stamp (Target t)) e past d r.0, r.1)
+      by (Client c) e ok i h = let r = h i in (acted_more (turn l.at.stamp (Client c)) e past d r.0, r.1)
 
   pub acted_made : (past : List Line) → GrownOf head past → (d : Deed) → Acted past d → IsMade d → In d (made_of past)
   acted_made [] g d a made = absurd a
   acted_made (l ∷ past) g d a made = by l.at.node l.entry g.0 a (λ b. acted_made past g.3 d b made)
     where
+      more : (e : Entry) → In d (made_of past) → In d (made_after (made_of past) e)
+      more (Made x) i = inr i
+      more e i = i
+
       by : (node : Node) (e : Entry) → EntryOf head past (turn l.at.stamp node) node e → Acted (line (turn l.at.stamp node) e ∷ past) d → (Acted past d → In d (made_of past)) → In d (made_of (line (turn l.at.stamp node) e ∷ past))
-      by (Target t) (Made e) ok (inl q) h = inl q
-      by (Target t) (Made e) ok (inr b) h = inr (h b)
-      by (Target t) (Act e) ok (inl q) h = absurd (let n = ap (λ (v : Deed). v.reply.txn.0) (sym q) in let none = ap (λ (v : TxnOf). v.0)
-          (acted head.osts past (turn l.at.stamp (Target t)) t e ok).number in omega (arith, n, none, made))
-      by (Target t) (Act e) ok (inr b) h = h b
-      by (Target t) (Grant lock None) ok a h = absurd ok
-      by (Target t) (Grant lock (Some e)) ok a h = h (grant_made head.osts past (turn l.at.stamp (Target t)) t lock e ok d a made)
-      by (Client c) (Made e) ok a h = absurd ok
-      by (Client c) (Act e) ok a h = absurd ok
-      by (Client c) (Grant lock asked) ok a h = absurd ok
-      by (Client c) e ok a h = h a
-      by (Target t) e ok a h = h a
+      by (Client c) e ok a h = h (client_acted head past l.at.stamp c e d ok a)
+      by (Target t) e ok a h = ⊎_elim
+          (λ (q : e ≡ Made d). subst (λ (x : Entry). In d (made_after (made_of past) x)) (sym q) (inl refl))
+          (λ (b : Acted past d). more e (h b))
+          (made_new head past l.at.stamp t e d ok a made)
 
   pub made_fall : (past : List Line) → GrownOf head past → Fall (made_of past)
   made_fall [] g = tt
   made_fall (l ∷ past) g = by l.at.node l.entry g.0 (made_fall past g.3)
     where
-      new : (t : ℕ) (d : Deed) → TxnOk head.osts past (turn l.at.stamp (Target t)) d → (e : Deed) → In e (made_of past) → e.reply.txn.0 < d.reply.txn.0
+      new : (t : ℕ) (d : Deed) → TxnsOk head.osts past (turn l.at.stamp (Target t)) t d → (e : Deed) → In e (made_of past) → e.reply.txn.0 < d.reply.txn.0
       new t d ok e i =
           let r = made_acted past g.3 e i in
           let low = (holds_at head past g.3).history.last e r.0 r.1 in
-          let n = ap (λ (v : Deed). v.reply.txn.0) ok.is in
+          let n = ap (λ (v : TxnOf). v.0) (makes head.osts past (turn l.at.stamp (Target t)) t d ok).number in
           omega (arith, low, n)
 
       by : (node : Node) (e : Entry) → EntryOf head past (turn l.at.stamp node) node e → Fall (made_of past) → Fall (made_of (line (turn l.at.stamp node) e ∷ past))

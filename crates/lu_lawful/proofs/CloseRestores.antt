@@ -44,7 +44,7 @@ use Rattle.lu_guards.proofs.LifeLists.{life_stands, stands_life}
 use Rattle.lu_guards.proofs.Only.{grown_of}
 use Rattle.lu_facts.proofs.Groups.{turn, HasSlot, Gave, BroughtRise, HoldsAt}
 use Rattle.lu_facts.proofs.All.{holds}
-use Rattle.lu_facts.proofs.LocksClose.{restores_all}
+use Rattle.lu_facts.proofs.LocksClose.{apart_filter, granted_apart, restores_all}
 use Rattle.lu_facts.proofs.PartsStay.{in_every}
 use Rattle.lu_lawful.proofs.Taking.{handed_is, boot_of, taken_of}
 use Rattle.lu_lawful.proofs.CloseLines.{StandFirst, turned, first, next_turned, stands_first}
@@ -164,8 +164,11 @@ module _ (clients : ℕ) (head : Head) (t : ℕ) (past : List Line) (stamp : Sta
   -- the outcome's locks
   locks_are : o.locks ≡ window.staying o.gone (brought_of (only t past))
   locks_are = subst (λ (v : Outcome). v.locks ≡ window.staying v.gone (brought_of (only t past))) (sym ok.is)
-      (restores_all [] (window.staying (story.outcome_of head.osts head.clients (turn stamp (Target t)) (only t past)).gone (brought_of (only t past))) (λ k i. absurd i)
-      (λ k i. let b = brought k (in_filter (λ (l : Lock). not (is_life l.ask.who (lives_in (story.outcome_of head.osts head.clients (turn stamp (Target t)) (only t past)).gone))) k (brought_of (only t past)) i).0 in h.locks.readers b.0 k b.1))
+      (restores_all [] (window.staying gone (brought_of (only t past))) (λ l k i j. absurd j)
+      (apart_filter (λ (l : Lock). not (is_life l.ask.who (lives_in gone))) (brought_of (only t past)) (granted_apart head.osts head.clients (only t past) h.locks (brought_of (only t past)) h.recovers.brought_rise (λ l i. h.locks.brought ok.recovers l i))))
+    where
+      gone : List Gone
+      gone = (story.outcome_of head.osts head.clients (turn stamp (Target t)) (only t past)).gone
 
   -- a lock that a life that stays handed in
   record IsRestored (r : LockReplay) : Type 0 where

@@ -1,17 +1,16 @@
 -- What a target has committed, by its lines and by its story: a line says what stands on its disk, and a close's story is ahead until its
 -- commit comes. The committed number is 0, or that of a transaction that stands.
-use Rattle.std.proofs.Common.{◌≡◌, ℕ, ◌≤◌, Bool, true, false, List, [], ◌∷◌, Option, Some, None, ◌⊎◌, inl, inr, ⊎_elim, refl, sym, subst, ap, ◌∙◌, arith}
+use Rattle.std.proofs.Common.{◌≡◌, ℕ, ◌≤◌, Bool, true, false, List, [], ◌∷◌, Option, Some, ◌⊎◌, inl, inr, ⊎_elim, refl, sym, subst, ap, ◌∙◌, arith}
 use Rattle.std.specs.Prelude.{nat_eq, nat_lt, not, ◌&&◌, ◌||◌, if◌then◌else◌, unwrap_or, map}
 use Rattle.std.specs.List.{list_any}
-use Rattle.std.proofs.lemmas.Bool.{or_right}
+use Rattle.std.proofs.lemmas.Bool.{or_right, eqb-true}
 use Rattle.lu_base.specs.declared.ids.Node.{Node}
 use Rattle.lu_base.specs.declared.ids.Node.TheVariants.{Client, Target}
 use Rattle.lu_base.specs.declared.ids.Stamp.{Stamp}
-use Rattle.lu_base.specs.declared.ids.Txn.{Txn as TxnOf}
 use Rattle.lu_msg.specs.declared.commits.Batch.{Batch}
 use Rattle.lu_msg.specs.declared.commits.Transaction.{Transaction as Stored}
 use Rattle.lu_words.specs.Carried.{Deed, Disk, Outcome}
-use Rattle.lu_words.specs.Words.{Entry, Act, Txn as Made, Grant, Commit, Boot, Close, Line, line}
+use Rattle.lu_words.specs.Words.{Entry, Txn as Made, Commit, Boot, Close, Line, line}
 use Rattle.lu_words.specs.Concerns.{concerns, only}
 use Rattle.lu_words.specs.Printed.{printed}
 use Rattle.lu_target_rows.specs.Lives.{lives_of as lives_in}
@@ -38,10 +37,8 @@ use Rattle.lu_facts.proofs.All.{holds, holds_at}
 use Rattle.lu_facts.proofs.CloseFacts.{Closing, closing, kept_of_deed}
 use Rattle.lu_facts.proofs.ExactLists.{in_has}
 use Rattle.lu_facts.proofs.Lines.{acted_more}
-use Rattle.lu_facts.proofs.GrantLines.{grant_made}
 use Rattle.lu_lawful.specs.Fits.{WasMade}
-use Rattle.lu_lawful.proofs.Story.{acted_first}
-use Rattle.lu_lawful.proofs.Deeds.{act_for}
+use Rattle.lu_lawful.proofs.NewDeeds.{client_acted, made_new}
 use Rattle.lu_lawful.proofs.Lost.{stays_on}
 use Rattle.lu_lawful.proofs.Printed.{flip}
 use Rattle.lu_lawful.proofs.Taking.{either_way}
@@ -165,27 +162,21 @@ module _ (head : Head) where
           (λ (e : to ≡ (server_of head.osts past).committed.0). subst (λ (n : ℕ). MadeStands head.osts past n) (sym e) made)
           ok.is
       by (Target t) (Close o) ok h made = closes_made past l.at.stamp t o ok h made
-      by (Target t) (Act d) ok h made = stands_on (line (turn l.at.stamp (Target t)) (Act d)) past (server_of head.osts past).committed.0 (omega arith) made
-      by (Target t) (Made d) ok h made = stands_on (line (turn l.at.stamp (Target t)) (Made d)) past (server_of head.osts past).committed.0 (omega arith) made
-      by (Target t) (Grant lock asked) ok h made = stands_on (line (turn l.at.stamp (Target t)) (Grant lock asked)) past (server_of head.osts past).committed.0 (omega arith) made
-      by (Client c) (Act d) ok h made = absurd ok
-      by (Client c) (Made d) ok h made = absurd ok
-      by (Client c) (Grant lock asked) ok h made = absurd ok
-      by (Client c) e ok h made = made
-      by (Target t) e ok h made = made
+      by (Client c) e ok h made = stands_on (line (turn l.at.stamp (Client c)) e) past (server_of head.osts past).committed.0 (omega arith) made
+      by (Target t) e ok h made = stands_on (line (turn l.at.stamp (Target t)) e) past (server_of head.osts past).committed.0 (omega arith) made
 
 -- ---- transactions by the lines
 
-pub made_more : (l : Line) (past : List Line) (n : ℕ) → WasMade past n → WasMade (l ∷ past) n
-made_more l past n = by l.entry
+pub made_more : (t : ℕ) (l : Line) (past : List Line) (n : ℕ) → WasMade t past n → WasMade t (l ∷ past) n
+made_more t l past n = by l.entry
   where
-    by : (e : Entry) → WasMade past n → WasMade (line l.at e ∷ past) n
+    by : (e : Entry) → WasMade t past n → WasMade t (line l.at e ∷ past) n
     by (Made d) m = inr m
     by _ m = m
 
 -- the laws read it
 pub record Listed (t : ℕ) (past : List Line) (n : ℕ) : Type 0 where
-  pub made : WasMade past n
+  pub made : WasMade t past n
   pub listed : list_any (λ (x : Transaction). nat_eq x.number n) (transactions t (printed past)) ≡ true
 
 pub listed : (head : Head) (t : ℕ) (past : List Line) (d : Deed) → Grown head past → Acted (only t past) d → IsMade d → Listed t past d.reply.txn.0
@@ -202,9 +193,9 @@ listed head t (l ∷ past) d g a made = by l.at.node l.entry g.0 a (λ b. listed
     more true b e old h = or_right (nat_eq e.number n) (list_any (λ (x : Transaction). nat_eq x.number n) old) h
     more false b e old h = h
 
-    quiet : (node : Node) (e : Entry) (b : Bool) → (Acted (line (turn l.at.stamp node) e ∷ P) d → Acted P d) → Acted (if b then line (turn l.at.stamp node) e ∷ P else P) d → Acted P d
-    quiet node e true f i = f i
-    quiet node e false f i = i
+    client : (c : ℕ) (e : Entry) (b : Bool) → (b ≡ true → EntryOf head P (turn l.at.stamp (Client c)) (Client c) e) → Acted (if b then line (turn l.at.stamp (Client c)) e ∷ P else P) d → Acted P d
+    client c e true of i = client_acted head P l.at.stamp c e d (of refl) i
+    client c e false of i = i
 
     by : (node : Node) (e : Entry) → Allowed head past (turn l.at.stamp node) e → Acted (only t (line (turn l.at.stamp node) e ∷ past)) d → (Acted P d → Listed t past n) → Listed t (line (turn l.at.stamp node) e ∷ past) n
     by (Client c) (Made e) k i ih = absurd k.ok
@@ -225,40 +216,21 @@ listed head t (l ∷ past) d g a made = by l.at.node l.entry g.0 a (λ b. listed
         of true q (inl same) =
             let number : e.reply.txn.0 ≡ n = ap (λ (y : Deed). y.reply.txn.0) same in
             record {
-              made = inl number;
+              made = inl (ap Target (sym (eqb-true t u q)), number);
               listed = ap (λ (b : Bool). list_any (λ (y : Transaction). nat_eq y.number n) (if b then one ∷ transactions t (printed past) else transactions t (printed past))) (flip u t ∙ q)
                   ∙ ap (λ (b : Bool). b || list_any (λ (y : Transaction). nat_eq y.number n) (transactions t (printed past))) (subst (λ (m : ℕ). nat_eq m n ≡ true) (sym number) (self n));
             }
-    by (Client c) (Act e) k i ih = absurd k.ok
-    by (Target u) (Act e) k i ih = of (nat_eq t u) refl i
+    by (Client c) e k i ih = let r = ih (client c e (concerns t (Client c) e) (k.of t) i) in record { made = r.made; listed = r.listed }
+    by (Target u) e k i ih = let r = ih (was (nat_eq t u) refl i) in record { made = r.made; listed = r.listed }
       where
-        x : Line
-        x = line (turn l.at.stamp (Target u)) (Act e)
-
-        old : Acted P d → Listed t (x ∷ past) n
-        old j = let r = ih j in record { made = r.made; listed = r.listed }
-
-        of : (b : Bool) → nat_eq t u ≡ b → Acted (if b then x ∷ P else P) d → Listed t (x ∷ past) n
-        of false q i = old i
-        of true q (inr j) = old j
-        of true q (inl same) = absurd (let zero : n ≡ 0 = ap (λ (y : Deed). y.reply.txn.0) (sym same) ∙ ap (λ (v : TxnOf). v.0) (act_for head past l.at.stamp u e k).number in omega (arith, zero, made))
-    by (Client c) (Grant lock asked) k i ih = absurd k.ok
-    by (Target u) (Grant lock None) k i ih = absurd k.ok
-    by (Target u) (Grant lock (Some e)) k i ih = let r = ih (was (nat_eq t u) refl i) in record { made = r.made; listed = r.listed }
-      where
-        was : (b : Bool) → nat_eq t u ≡ b → Acted (if b then line (turn l.at.stamp (Target u)) (Grant lock (Some e)) ∷ P else P) d → Acted P d
+        was : (b : Bool) → nat_eq t u ≡ b → Acted (if b then line (turn l.at.stamp (Target u)) e ∷ P else P) d → Acted P d
         was false q j = j
-        was true q j = grant_made head.osts P (turn l.at.stamp (Target u)) u lock e (k.of t q) d j made
-    by node e k i ih = let r = ih (quiet node e (concerns t node e) (λ j. j) i) in record { made = r.made; listed = r.listed }
+        was true q j = ⊎_elim (λ (same : e ≡ Made d). absurd (cc)) (λ (a : Acted P d). a) (made_new head P l.at.stamp u e d (k.of t q) j made)
 
 -- what stands by the story stands by the laws
-pub stands_law : (head : Head) (t : ℕ) (past : List Line) (n : ℕ) → Grown head past → ((m : ℕ) → WasMade past m → law.is_lost (printed past) 0 m ≡ is_lost head.osts (only 0 past) m) → MadeStands head.osts (only t past) n → (nat_eq n 0 || stands t (printed past) n) ≡ true
+pub stands_law : (head : Head) (t : ℕ) (past : List Line) (n : ℕ) → Grown head past → ((m : ℕ) → WasMade t past m → law.is_lost (printed past) t m ≡ is_lost head.osts (only t past) m) → MadeStands head.osts (only t past) n → (nat_eq n 0 || stands t (printed past) n) ≡ true
 stands_law head t past n g same (inl e) = ap (λ (m : ℕ). nat_eq m 0 || stands t (printed past) n) e
 stands_law head t past n g same (inr p) =
     let k = listed head t past p.0 g p.1 p.2 in
-    let first = acted_first head t past p.0 g p.1 p.2 in
-    let stays : law.is_lost (printed past) t p.0.reply.txn.0 ≡ false =
-    subst (λ (v : ℕ). law.is_lost (printed past) v p.0.reply.txn.0 ≡ false) (sym first)
-    (same p.0.reply.txn.0 k.made ∙ subst (λ (v : ℕ). is_lost head.osts (only v past) p.0.reply.txn.0 ≡ false) first p.4)
-    in
+    let stays : law.is_lost (printed past) t p.0.reply.txn.0 ≡ false = same p.0.reply.txn.0 k.made ∙ p.4 in
     subst (λ (m : ℕ). (nat_eq m 0 || stands t (printed past) m) ≡ true) p.3 (or_right (nat_eq p.0.reply.txn.0 0) (stands t (printed past) p.0.reply.txn.0) (rw (k.listed, stays) refl))

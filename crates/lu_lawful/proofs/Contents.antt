@@ -1,9 +1,10 @@
 -- The metadata target's contents, as the laws read them in the printed past of a run: they hold what its tree holds. The laws take lost
 -- transactions out of all that was done, the story at each close what that one loses; the opens of lives that leave, which no part holds,
 -- go at other lines.
-use Rattle.std.proofs.Common.{◌≡◌, ℕ, ◌+◌, ◌*◌, ◌/◌, ◌<◌, ◌≤◌, max, Bool, true, false, List, [], ◌∷◌, Option, Some, refl, sym, subst, ap, ◌∙◌, arith}
+use Rattle.std.proofs.Common.{◌≡◌, ℕ, zero, suc, ◌+◌, ◌*◌, ◌/◌, ◌<◌, ◌≤◌, max, Bool, true, false, List, [], ◌∷◌, Option, Some, refl, sym, subst, ap, ◌∙◌, arith}
 use Rattle.std.specs.Prelude.{nat_eq, not, ◌&&◌, if◌then◌else◌}
 use Rattle.std.proofs.lemmas.Bool.{lt-ltb, or_right}
+use Rattle.std.proofs.lemmas.Bool.Decides.{nat_tests}
 use Rattle.lu_base.specs.declared.ids.At.{At}
 use Rattle.lu_base.specs.declared.ids.Node.{Node}
 use Rattle.lu_base.specs.declared.ids.Node.TheVariants.{Client, Target}
@@ -57,6 +58,10 @@ number_is head past at d g is = let n = is.number in omega (arith, n)
 pub number_in_boot : (boot n : ℕ) → n < 4294967296 → (boot * 4294967296 + n) / 4294967296 ≡ boot
 number_in_boot boot n lt = omega arith
 
+-- no other target is that of the metadata
+other : (t : ℕ) → nat_eq (suc t) 0 ≡ false
+other t = grind (arith, nat_tests)
+
 pub below_next : (head : Head) (past : List Line) → Grown head past → greatest 0 (printed past) ≤ numbers_at past
 below_next head [] g = omega arith
 below_next head (l ∷ past) g = at l.at.node l.entry g.0 (below_next head past g.1) (numbers_up head l past g.1 g.0)
@@ -64,10 +69,10 @@ below_next head (l ∷ past) g = at l.at.node l.entry g.0 (below_next head past 
     at : (node : Node) (e : Entry) → Allowed head past (turn l.at.stamp node) e → greatest 0 (printed past) ≤ numbers_at past → numbers_at past ≤ numbers_at (line (turn l.at.stamp node) e ∷ past)
         → greatest 0 (printed (line (turn l.at.stamp node) e ∷ past)) ≤ numbers_at (line (turn l.at.stamp node) e ∷ past)
     at (Client c) (Made d) k h up = absurd k.ok
-    at (Target t) (Made d) k h up =
-        let n = number_is head past (turn l.at.stamp (Target t)) d g.1 (txn_is head past l.at.stamp t d k) in
-        subst (λ (v : ℕ). greatest 0 (printed (line (turn l.at.stamp (Target v)) (Made d) ∷ past)) ≤ numbers_at (line (turn l.at.stamp (Target v)) (Made d) ∷ past)) (sym k.ok)
-        (omega (arith, n, h))
+    at (Target zero) (Made d) k h up = let n = number_is head past (turn l.at.stamp (Target 0)) d g.1 (txn_is head past l.at.stamp d k) in omega (arith, n, h)
+    at (Target (suc t)) (Made d) k h up =
+        let same : greatest 0 (printed (line (turn l.at.stamp (Target (suc t))) (Made d) ∷ past)) ≡ greatest 0 (printed past) = rw (other t) refl in
+        omega (arith, h, up, same)
     at (Target t) (Boot b disk) k h up = omega (arith, h, up)
     at _ _ k h up = h
 
@@ -103,9 +108,9 @@ module _ (head : Head) (lost : ℕ → ℕ → Bool) where
 
   -- what a close so far lost is lost
   abbrev Loses : List Line → Type 0
-  Loses past = (n : ℕ) → WasMade past n → story.is_lost head.osts (only 0 past) n ≡ true → lost 0 n ≡ true
+  Loses past = (n : ℕ) → WasMade 0 past n → story.is_lost head.osts (only 0 past) n ≡ true → lost 0 n ≡ true
 
-  made_step : (past : List Line) (stamp : Stamp) (d : Deed) → Grown head past → TxnIs head.osts (server_at head.osts 0 past) (turn stamp (Target 0)) d → AskedAt past d → OfItems past (items past)
+  made_step : (past : List Line) (stamp : Stamp) (d : Deed) → Grown head past → TxnIs head.osts (server_at head.osts 0 past) (turn stamp (Target 0)) d → AskedAt 0 past d → OfItems past (items past)
       → OfItems (line (turn stamp (Target 0)) (Made d) ∷ past) (items (line (turn stamp (Target 0)) (Made d) ∷ past))
   made_step past stamp d g is asks h = subst (λ (o : Option Op). Goal (lost 0 n) (standing.is_next 0 (printed past) n) o) (sym asks) (subst (λ (b : Bool). Goal (lost 0 n) b (Some d.op)) (sym next) (by (lost 0 n)))
     where
@@ -152,7 +157,7 @@ module _ (head : Head) (lost : ℕ → ℕ → Bool) where
 
   of_items : (past : List Line) → Grown head past → AllAsked past → Loses past → OfItems past (items past)
   of_items [] g a f = λ p. same_self empty p
-  of_items (l ∷ past) g a f = at l.at.node l.entry g.0 a f (of_items past g.1 (asked_before l past a) (λ n m e. f n (made_more l past n m) (lost_whole head.osts l past n e)))
+  of_items (l ∷ past) g a f = at l.at.node l.entry g.0 a f (of_items past g.1 (asked_before l past a) (λ n m e. f n (made_more 0 l past n m) (lost_whole head.osts 0 l past n e)))
     where
       P : List Line
       P = only 0 past
@@ -163,17 +168,15 @@ module _ (head : Head) (lost : ℕ → ℕ → Bool) where
       at : (node : Node) (e : Entry) → Allowed head past (turn l.at.stamp node) e → AllAsked (line (turn l.at.stamp node) e ∷ past) → Loses (line (turn l.at.stamp node) e ∷ past) → OfItems past (items past)
           → OfItems (line (turn l.at.stamp node) e ∷ past) (items (line (turn l.at.stamp node) e ∷ past))
       at (Client c) (Made d) k a f h = absurd k.ok
-      at (Target t) (Made d) k a f h =
-          let is = txn_is head past l.at.stamp t d k in
-          subst (λ (v : ℕ). OfItems (line (turn l.at.stamp (Target v)) (Made d) ∷ past) (items (line (turn l.at.stamp (Target v)) (Made d) ∷ past))) (sym k.ok)
-          (made_step past l.at.stamp d g.1 (subst (λ (v : ℕ). TxnIs head.osts (server_at head.osts 0 past) (turn l.at.stamp (Target v)) d) k.ok is) a.0 h)
+      at (Target zero) (Made d) k a f h = made_step past l.at.stamp d g.1 (txn_is head past l.at.stamp d k) (a.0 0 refl) h
+      at (Target (suc t)) (Made d) k a f h = λ p. rw (other t, flip 0 (suc t) ∙ other t) (h p)
       at (Client c) (Close o) k a f h = absurd k.ok
       at (Target t) (Close o) k a f h = of (nat_eq 0 t) f
         where
           x : Line
           x = line (turn l.at.stamp (Target t)) (Close o)
 
-          of : (b : Bool) → ((n : ℕ) → WasMade past n → story.is_lost head.osts (if b then x ∷ P else P) n ≡ true → lost 0 n ≡ true) → OfItems past (items_of head.osts (if b then x ∷ P else P))
+          of : (b : Bool) → ((n : ℕ) → WasMade 0 past n → story.is_lost head.osts (if b then x ∷ P else P) n ≡ true → lost 0 n ≡ true) → OfItems past (items_of head.osts (if b then x ∷ P else P))
           of false f = h
           of true f = close_step past o g.1 (λ d b made stands e. f d.reply.txn.0 (listed head 0 past d g.1 b made).made (or_right (story.is_lost head.osts P d.reply.txn.0) (loses (server_of head.osts P).committed.0 o d.reply.txn.0) e)) h
       at (Client c) (Evict who cause) k a f h = absurd k.ok
@@ -199,7 +202,7 @@ none_taken head past g (Forgets who ∷ is) all = ap (λ (js : List Item). Forge
 none_taken head past g (Acts a ∷ is) all =
     let ok : ItemOk head.osts (only 0 past) is a = all.0 in
     let number : a.number.0 ≡ ok.deed.reply.txn.0 = ap (λ (o : Operation). o.number.0) (sym ok.operates) in
-    let stands : is_lost (printed past) 0 a.number.0 ≡ false = ap (is_lost (printed past) 0) number ∙ lost_is head past g ok.deed.reply.txn.0 (listed head 0 past ok.deed g ok.acted ok.made).made ∙ ok.stands in
+    let stands : is_lost (printed past) 0 a.number.0 ≡ false = ap (is_lost (printed past) 0) number ∙ lost_is head 0 past g ok.deed.reply.txn.0 (listed head 0 past ok.deed g ok.acted ok.made).made ∙ ok.stands in
     ap (λ (b : Bool). if not b then Acts a ∷ pick (keep (is_lost (printed past))) is else pick (keep (is_lost (printed past))) is) stands ∙ ap (λ (js : List Item). Acts a ∷ js) (none_taken head past g is all.1)
 
 pub contents_same : (head : Head) (past : List Line) → Grown head past → AllAsked past → (p : Part) → Same (contents head.osts (printed past)) (tree_at head.osts 0 past) p
@@ -208,7 +211,7 @@ contents_same head past g a p =
     let taken = none_taken head past g (items_of head.osts (only 0 past)) history.items in
     subst (λ (t : Tree). Same (contents head.osts (printed past)) t p) (sym (tree_is head.osts 0 past))
     (same_trans (contents head.osts (printed past)) (whole head.osts (items_of head.osts (only 0 past))) (server_of head.osts (only 0 past)).tree p
-    (subst (λ (is : List Item). Same (contents head.osts (printed past)) (whole head.osts is) p) taken (of_items head (is_lost (printed past)) past g a (λ n made e. lost_is head past g n made ∙ e) p))
+    (subst (λ (is : List Item). Same (contents head.osts (printed past)) (whole head.osts is) p) taken (of_items head (is_lost (printed past)) past g a (λ n made e. lost_is head 0 past g n made ∙ e) p))
     (history.tree p))
 
 -- so an operation comes out of both alike

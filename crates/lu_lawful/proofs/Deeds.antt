@@ -1,6 +1,6 @@
 -- What a line on which the metadata target acted says of its deed: its turn, its answer, what it saw and wrote, and
--- whether it changes the tree. Of an act of any target: what both kinds of acts have in common.
-use Rattle.std.proofs.Common.{◌≡◌, ℕ, ◌+◌, ◌*◌, ◌<◌, true, false, List, inl, refl, sym, subst, ◌∙◌}
+-- whether it changes the tree. Of an act or a transaction of any target: what both kinds have in common.
+use Rattle.std.proofs.Common.{◌≡◌, ℕ, ◌+◌, ◌*◌, ◌<◌, true, false, List, inl, inr, refl, sym, subst, ◌∙◌, arith}
 use Rattle.lu_base.specs.declared.ids.At.{At}
 use Rattle.lu_base.specs.declared.ids.Node.TheVariants.{Target}
 use Rattle.lu_base.specs.declared.ids.Stamp.{Stamp}
@@ -13,13 +13,12 @@ use Rattle.lu_covered.specs.TargetParts.{operation}
 use Rattle.lu_covered.specs.TargetStates.{Server, none, server_at, server_of, next_number, seen_in}
 use Rattle.lu_covered.specs.Deeds.{asked}
 use Rattle.lu_covered.specs.Heads.{Head}
-use Rattle.lu_guards.proofs.StoryGuards.{ActOk, TxnOk}
-use Rattle.lu_guards.proofs.Acts.{Acted, acted, acts_names}
+use Rattle.lu_guards.proofs.StoryGuards.{ActOk, TxnOk, TxnsOk}
+use Rattle.lu_guards.proofs.Acts.{Acted, acted, acts_names, Made as MadeSo, made as made_so}
 use Rattle.lu_guards.proofs.Grown.{Allowed}
 use Rattle.lu_guards.proofs.Lists.{self}
 use Rattle.lu_guards.proofs.Parts.{server_is}
 use Rattle.lu_facts.proofs.Groups.{turn}
-use Rattle.lu_lawful.proofs.Story.{about_it}
 
 -- an act of a target in that state
 pub record ActIs (osts : ℕ) (v : Server) (at : At) (d : Deed) : Type 0 where
@@ -38,6 +37,11 @@ pub record TxnIs (osts : ℕ) (v : Server) (at : At) (d : Deed) : Type 0 where
   pub saw : d.reply.seen ≡ seen_in (touches osts v.tree (operation d)) v.log
   pub wrote : d.writes ≡ writes osts v.tree (operation d)
   pub moves : changes osts v.tree (operation d) ≡ true
+
+-- the metadata target makes transactions on names
+pub txns_names : (osts : ℕ) (past : List Line) (at : At) (d : Deed) → TxnsOk osts past at 0 d → TxnOk osts past at d
+txns_names osts past at d (inl ok) = ok.1
+txns_names osts past at d (inr ok) = absurd (omega (arith, ok.0))
 
 act_of : (osts : ℕ) (past : List Line) (at : At) (d : Deed) → ActOk osts past at d → ActIs osts (server_of osts past) at d
 act_of osts past at d ok = subst (λ (e : Deed). ActIs osts (server_of osts past) at e) (sym ok.is) (record { turn = refl; txn = refl; answered = refl; saw = refl; still = ok.still })
@@ -65,6 +69,10 @@ act_is head past stamp d k =
 pub act_for : (head : Head) (past : List Line) (stamp : Stamp) (t : ℕ) (d : Deed) → Allowed head past (turn stamp (Target t)) (Act d) → Acted head.osts (only t past) (turn stamp (Target t)) d
 act_for head past stamp t d k = acted head.osts (only t past) (turn stamp (Target t)) t d (k.of t (self t))
 
-pub txn_is : (head : Head) (past : List Line) (stamp : Stamp) (t : ℕ) (d : Deed) → Allowed head past (turn stamp (Target t)) (Made d) → TxnIs head.osts (server_at head.osts 0 past) (turn stamp (Target t)) d
-txn_is head past stamp t d k =
-    subst (λ (v : Server). TxnIs head.osts v (turn stamp (Target t)) d) (sym (server_is head.osts 0 past)) (txn_of head.osts (only 0 past) (turn stamp (Target t)) d (k.of 0 (about_it t k.ok)))
+pub txn_is : (head : Head) (past : List Line) (stamp : Stamp) (d : Deed) → Allowed head past (turn stamp (Target 0)) (Made d) → TxnIs head.osts (server_at head.osts 0 past) (turn stamp (Target 0)) d
+txn_is head past stamp d k =
+    subst (λ (v : Server). TxnIs head.osts v (turn stamp (Target 0)) d) (sym (server_is head.osts 0 past)) (txn_of head.osts (only 0 past) (turn stamp (Target 0)) d (txns_names head.osts (only 0 past) (turn stamp (Target 0)) d (k.of 0 refl)))
+
+-- of any target
+pub txn_for : (head : Head) (past : List Line) (stamp : Stamp) (t : ℕ) (d : Deed) → Allowed head past (turn stamp (Target t)) (Made d) → MadeSo head.osts (only t past) (turn stamp (Target t)) d
+txn_for head past stamp t d k = made_so head.osts (only t past) (turn stamp (Target t)) t d (k.of t (self t))

@@ -32,7 +32,7 @@ use Rattle.lu_laws.specs.Words.Closes.{cause_at, is_finished, closes_in, decided
 use Rattle.lu_laws.specs.Laws.Recovery.{is_commit, is_tick, joins_after, takes_newer, EvictedBy, EvictedIn, EvictAt}
 use Rattle.lu_laws.proofs.Tests.{either_left, either_right}
 use Rattle.lu_guards.proofs.Guards.{In, Later, IsTurnOf, InTurn, IsCommit, IsTick}
-use Rattle.lu_guards.proofs.StoryGuards.{CalledBefore, TookSince, TookNewer, IsServing, EvictOk}
+use Rattle.lu_guards.proofs.StoryGuards.{CalledBefore, TookSince, TookNewer, IsServing, BlocksOk, EvictOk}
 use Rattle.lu_guards.proofs.Grown.{ShowsNext, Allowed, Grown, IsPlaced, GrownOf}
 use Rattle.lu_guards.proofs.StoryGuards as story_guards
 use Rattle.lu_guards.proofs.Lists.{self, life_self, turn_irreflexive}
@@ -41,7 +41,6 @@ use Rattle.lu_guards.proofs.TargetLeaving.{since_took}
 use Rattle.lu_facts.proofs.Groups.{turn}
 use Rattle.lu_facts.proofs.All.{holds}
 use Rattle.lu_lawful.proofs.Turns.{later_before, same_turn_is, same_turn_self}
-use Rattle.lu_lawful.proofs.Story.{about_it}
 use Rattle.lu_lawful.proofs.Printed.{flip, took_whole, took_taken}
 use Rattle.lu_lawful.proofs.CloseLines.{nothing_left}
 use Rattle.lu_lawful.proofs.CloseSlots.{slot_now}
@@ -85,20 +84,32 @@ tick_in (l ∷ past) at i = by l.entry i (tick_in past at)
 
 -- ---- a life that was called back
 
--- what is called back is a lock that is granted, as the lines show it
-calls_granted : (head : Head) (past : List Line) (stamp : Stamp) (t : ℕ) (called : Called) → Allowed head past (turn stamp (Target t)) (Block called) → Grown head past → is_granted_to called.who called.cookie.0 (granted 0 (printed past)) ≡ true
+-- what a target calls back is a granted lock
+record CallsLock (osts : ℕ) (past : List Line) (called : Called) : Type 0 where
+  serves : IsServing osts past
+  lock : Lock
+  granted : In lock (server_of osts past).granted
+  of_cookie : called.cookie ≡ lock.cookie
+  of_life : called.who ≡ lock.ask.who
+
+calls_lock : (osts : ℕ) (past : List Line) (t : ℕ) (called : Called) → BlocksOk osts past t called → CallsLock osts past called
+calls_lock osts past t called (inl (e, ok)) = record { serves = ok.serves; lock = ok.lock; granted = ok.granted; of_cookie = ok.of_cookie; of_life = ok.of_life }
+calls_lock osts past t called (inr (e, ok)) = record { serves = ok.serves; lock = ok.lock; granted = ok.granted; of_cookie = ok.of_cookie; of_life = ok.of_life }
+
+-- as the lines show it
+calls_granted : (head : Head) (past : List Line) (stamp : Stamp) (t : ℕ) (called : Called) → Allowed head past (turn stamp (Target t)) (Block called) → Grown head past → is_granted_to called.who called.cookie.0 (granted t (printed past)) ≡ true
 calls_granted head past stamp t called a g =
-    let ok = a.of 0 (about_it t a.ok) in
-    let none = nothing_left head (only 0 past) (turn stamp (Target t)) (Block called) (λ next more q. a.shows 0 (about_it t a.ok) next more q) (λ v. v) in
-    let shown = granted_shown 0 head past ok.lock g ok.serves none ok.granted in
-    let here : In ok.lock (granted 0 (printed past)) = ⊎_elim
-    (λ (q : In ok.lock (granted 0 (printed past))). q)
-    (λ (q : JustGave 0 past ok.lock). absurd (owed past (turn stamp (Target t)) q.0 (Block called) q.1 a.owes))
-    (all_granted 0 head past g ok.lock shown)
+    let ok = calls_lock head.osts (only t past) t called (a.of t (self t)) in
+    let none = nothing_left head (only t past) (turn stamp (Target t)) (Block called) (λ next more q. a.shows t (self t) next more q) (λ v. v) in
+    let shown = granted_shown t head past ok.lock g ok.serves none ok.granted in
+    let here : In ok.lock (granted t (printed past)) = ⊎_elim
+    (λ (q : In ok.lock (granted t (printed past))). q)
+    (λ (q : JustGave t past ok.lock). absurd (owed past (turn stamp (Target t)) q.0 (Block called) q.1 a.owes))
+    (all_granted t head past g ok.lock shown)
     in
     let cookie : nat_eq ok.lock.cookie.0 called.cookie.0 ≡ true = eq-eqb ok.lock.cookie.0 called.cookie.0 (ap (λ (c : Cookie). c.0) (sym ok.of_cookie)) in
     let who : same_life ok.lock.ask.who called.who ≡ true = subst (λ (w : Who). same_life ok.lock.ask.who w ≡ true) (sym ok.of_life) (life_self ok.lock.ask.who) in
-    any_passes (λ (lock : Lock). has_cookie called.cookie.0 lock && same_life lock.ask.who called.who) ok.lock (granted 0 (printed past)) here (rw (cookie, who) refl)
+    any_passes (λ (lock : Lock). has_cookie called.cookie.0 lock && same_life lock.ask.who called.who) ok.lock (granted t (printed past)) here (rw (cookie, who) refl)
 
 -- its boot is the one that served last
 abbrev Served : Head → List Line → Type 0
@@ -152,10 +163,9 @@ called_back head t who at (l ∷ past) g s c = by l.at.node l.entry g.0 s c (cal
         of true e c = ⊎_elim
             (λ (p : (called.who ≡ who) × (turn_before (turn l.at.stamp (Target u)) at ≡ true)).
             let here : nat_eq u t ≡ true = flip u t ∙ e in
-            let first : t ≡ 0 = eqb-true t u e ∙ k.ok in
             let whose : is_granted_to who called.cookie.0 (granted t (printed past)) ≡ true =
-            subst (λ (v : ℕ). is_granted_to who called.cookie.0 (granted v (printed past)) ≡ true) (sym first)
-            (subst (λ (w : Who). is_granted_to w called.cookie.0 (granted 0 (printed past)) ≡ true) p.0 (calls_granted head past l.at.stamp u called k g.1))
+            subst (λ (v : ℕ). is_granted_to who called.cookie.0 (granted v (printed past)) ≡ true) (sym (eqb-true t u e))
+            (subst (λ (w : Who). is_granted_to w called.cookie.0 (granted u (printed past)) ≡ true) p.0 (calls_granted head past l.at.stamp u called k g.1))
             in
             new is (nat_eq u t) _ (rw (other_turn (turn l.at.stamp (Target u)) at p.1, whose) refl) here)
             (λ (q : CalledBefore P at who). old q)

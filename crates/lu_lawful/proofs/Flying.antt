@@ -174,6 +174,9 @@ keeps_flyers head t past stamp (Client c) (Send (Target u) (message.Request r)) 
     flyers_asks t past stamp c u r (life_of c (only t past)) (λ e. ask_flown t past c r (k.of t (subst (λ (v : ℕ). nat_eq t v ≡ true) e (self t)))) h
 keeps_flyers head t past stamp (Client c) (Send (Target u) (message.Cancel other boot cookie)) k g h = flyers_on t (line (turn stamp (Client c)) (Send (Target u) (message.Cancel other boot cookie))) past
     (λ who. refl) (λ who. refl) h
+keeps_flyers head t past stamp (Client c) (Send (Target u) (message.Where other boot cookie)) k g h = flyers_on t (line (turn stamp (Client c)) (Send (Target u) (message.Where other boot cookie))) past
+    (λ who. refl) (λ who. refl) h
+keeps_flyers head t past stamp (Client c) (Send (Target u) (message.Size m)) k g h = flyers_on t (line (turn stamp (Client c)) (Send (Target u) (message.Size m))) past (λ who. refl) (λ who. refl) h
 keeps_flyers head t past stamp (Client c) (Send (Target u) (message.Join other boot)) k g h = flyers_on t (line (turn stamp (Client c)) (Send (Target u) (message.Join other boot))) past (λ who. refl) (λ who. refl) h
 keeps_flyers head t past stamp (Client c) (Send (Target u) (message.Replay r)) k g h = flyers_on t (line (turn stamp (Client c)) (Send (Target u) (message.Replay r))) past (λ who. refl) (λ who. refl) h
 keeps_flyers head t past stamp (Client c) (Send (Target u) (message.Lock r)) k g h = flyers_on t (line (turn stamp (Client c)) (Send (Target u) (message.Lock r))) past (λ who. refl) (λ who. refl) h
@@ -184,6 +187,9 @@ keeps_flyers head t past stamp (Client c) (Send (Target u) m) k g h = absurd k.o
 keeps_flyers head t past stamp (Target u) (Send (Client c) (message.Reply r)) k g h = flyers_on t (line (turn stamp (Target u)) (Send (Client c) (message.Reply r))) past (λ who. refl) (λ who. refl) h
 keeps_flyers head t past stamp (Target u) (Send (Client c) (message.Block other boot cookie)) k g h = flyers_on t (line (turn stamp (Target u)) (Send (Client c) (message.Block other boot cookie))) past
     (λ who. refl) (λ who. refl) h
+keeps_flyers head t past stamp (Target u) (Send (Client c) (message.Grant n)) k g h = flyers_on t (line (turn stamp (Target u)) (Send (Client c) (message.Grant n))) past (λ who. refl) (λ who. refl) h
+keeps_flyers head t past stamp (Target u) (Send (Client c) (message.Ask other boot cookie for_who xid)) k g h = flyers_on t
+    (line (turn stamp (Target u)) (Send (Client c) (message.Ask other boot cookie for_who xid))) past (λ who. refl) (λ who. refl) h
 keeps_flyers head t past stamp (Target u) (Send (Client c) (message.Ready other boot committed)) k g h = flyers_on t (line (turn stamp (Target u)) (Send (Client c) (message.Ready other boot committed)))
     past (λ who. refl) (λ who. refl) h
 keeps_flyers head t past stamp (Target u) (Send (Client c) (message.Evicted other boot)) k g h = flyers_on t (line (turn stamp (Target u)) (Send (Client c) (message.Evicted other boot))) past (λ who. refl) (λ who. refl) h

@@ -1,4 +1,4 @@
--- The law of glimpses: no item of the history changes bytes, so each object of the plain machine is empty after every turn; and each size
+-- The law of glimpses in a run that changes no bytes: no item of the history changes bytes, so each object of the plain machine is empty after every turn; and each size
 -- that a glimpse is told is 0.
 use Rattle.std.proofs.Common.{◌≡◌, ℕ, suc, Bool, false, List, [], ◌∷◌, Option, Some, None, inl, inr, refl, sym, subst, ap, ◌∙◌}
 use Rattle.std.specs.Prelude.{nat_eq, ◌+◌, ◌||◌}
@@ -20,7 +20,7 @@ use Rattle.lu_machine.specs.Objects.{object_size}
 use Rattle.lu_words.specs.Words.{Entry, Told, Line, line}
 use Rattle.lu_words.specs.Sent.{count_sent}
 use Rattle.lu_words.specs.Printed.{printed_entry, printed}
-use Rattle.lu_covered.specs.Covered.{IsOnSizes}
+use Rattle.lu_covered.specs.Covered.{IsOnBytes}
 use Rattle.lu_covered.specs.Heads.{Head}
 use Rattle.lu_laws.specs.Words.Pasts.{Past, same_turn}
 use Rattle.lu_laws.specs.Words.Lives.{is_gone}
@@ -32,13 +32,14 @@ use Rattle.lu_laws.specs.Laws.Glimpse as laws
 use Rattle.lu_laws.specs.Laws.Glimpse.{AreSizes, machines, SizesOn, GlimpseAt, GlimpseOf, Glimpse}
 use Rattle.lu_guards.proofs.Grown.{Allowed, Grown}
 use Rattle.lu_facts.proofs.Groups.{turn}
-use Rattle.lu_lawful.proofs.Lines.{Keeps, shown, holds_due}
-use Rattle.lu_lawful.proofs.Facts.{SizesAt, TellsAt, AllTold, told_earlier}
+use Rattle.lu_facts.proofs.BareGuards.{BareGrown, wide}
+use Rattle.lu_lawful.proofs.Lines.{Keeps, shown, holds_owed}
+use Rattle.lu_lawful.proofs.Tells.{SizesAt, TellsAt, AllTold, told_earlier}
 use Rattle.lu_lawful.proofs.Fine.{are_sizes, deed_fine, so_fine, known_fine}
 use Rattle.lu_lawful.proofs.Handles.{good_stage, file_there, meant_is}
 use Rattle.lu_lawful.proofs.ToldItems.{NoBytes, no_bytes}
 use Rattle.lu_lawful.proofs.Sized.{AllEmpty}
-use Rattle.lu_lawful.proofs.ToldLaw.{all_told}
+use Rattle.lu_lawful.proofs.AllTold.{all_told}
 
 -- ---- no file has bytes
 
@@ -49,21 +50,28 @@ no_object m f stripe none = ap (λ (b : FileBytes). object_size (object_at b str
 -- ---- the trace cut after this turn
 
 module _ (head : Head) (out : Who → Bool) where
+  -- what is known of a past: it changes no bytes, and what it tells
+  abbrev Known : List Line → Type 0
+  Known past = BareGrown head past × AllTold past
+
+  earlier : (l : Line) (past : List Line) → Known (l ∷ past) → Known past
+  earlier l past k = (k.0.1, told_earlier l past k.1)
+
   -- after the lines to come of any turn
   abbrev Due : List Line → List PrintedLine → Type 0
   Due past later = (at : At) → NoBytes (machine_cut head.osts (to_turn_end at later (printed past)))
 
-  cut_none : (past : List Line) → Grown head past → NoBytes (machine_cut head.osts (printed past))
+  cut_none : (past : List Line) → BareGrown head past → NoBytes (machine_cut head.osts (printed past))
   cut_none past g = no_bytes head (is_gone (printed past)) (is_lost (printed past)) past g (all_told head past g)
 
-  due_before : (past : List Line) (l : Line) (later : List PrintedLine) → Grown head (l ∷ past) → Due (l ∷ past) later → Due past (shown l.at (printed_entry (count_sent past + 1) l.entry) later)
-  due_before past l later g due at = by (printed_entry (count_sent past + 1) l.entry) (due at)
+  due_before : (past : List Line) (l : Line) (later : List PrintedLine) → Known (l ∷ past) → Due (l ∷ past) later → Due past (shown l.at (printed_entry (count_sent past + 1) l.entry) later)
+  due_before past l later k due at = by (printed_entry (count_sent past + 1) l.entry) (due at)
     where
       by : (o : Option PrintedEntry) → NoBytes (machine_cut head.osts (to_turn_end at later (elim o [ None ↦ printed past | Some e ↦ record { at = l.at; entry = e } ∷ printed past ])))
           → NoBytes (machine_cut head.osts (to_turn_end at (shown l.at o later) (printed past)))
       by None h = h
       by (Some e) h =
-          cond_both (same_turn l.at at) (to_turn_end at later (record { at = l.at; entry = e } ∷ printed past)) (printed past) (λ (p : Past). NoBytes (machine_cut head.osts p)) (λ _. h) (λ _. cut_none past g.1)
+          cond_both (same_turn l.at at) (to_turn_end at later (record { at = l.at; entry = e } ∷ printed past)) (printed past) (λ (p : Past). NoBytes (machine_cut head.osts p)) (λ _. h) (λ _. cut_none past k.0.1)
 
   -- ---- what is told
 
@@ -86,7 +94,7 @@ module _ (head : Head) (out : Who → Bool) where
   sizes_on past l later c slot named given g none a =
       let m = meant_is head c slot past a.running g a.call in
       let good : m.0.bad ≡ false = sym m.5 ∙ good_stage a.running.stage a.good in
-      let f = file_there c slot (printed past) m.0 m.1 (subst IsOnSizes (sym (m.3 ∙ a.glimpses)) tt) good in
+      let f = file_there c slot (printed past) m.0 m.1 (subst IsOnBytes (sym (m.3 ∙ a.glimpses)) tt) good in
       subst (λ (o : Option Begun). SizesOn out head.osts (printed past) l later c slot a.sizes o) (sym m.1)
       (subst (λ (o : Option Fid). AreSizes (machines out head.osts (printed past) l later c slot) (printed past) c slot o 0 a.sizes) (sym f.1)
       (are_empty (machine_cut head.osts (to_turn_end l.at later (l ∷ printed past))) _ (printed past) c slot f.0 0 a.sizes none a.empty))
@@ -122,8 +130,10 @@ module _ (head : Head) (out : Who → Bool) where
       by _ _ k t due = tt
 
   -- whatever lives are out
-  pub glimpse_of : (past : List Line) → Grown head past → Holds (GlimpseOf out head.osts) (printed past)
-  glimpse_of past g = holds_due head (GlimpseOf out head.osts) AllTold told_earlier Due due_before glimpse_at past [] g (all_told head past g) (λ at. cut_none past g)
+  pub glimpse_of : (past : List Line) → BareGrown head past → Holds (GlimpseOf out head.osts) (printed past)
+  glimpse_of past g =
+      holds_owed head (GlimpseOf out head.osts) Known earlier Due (λ past l later w k d. due_before past l later k d) (λ past l later ok w k d. glimpse_at past l later ok w k.1 d) past [] (wide head past g) (g, all_told head past g)
+      (λ at. cut_none past g)
 
-pub glimpse_law : (head : Head) (past : List Line) → Grown head past → Holds (Glimpse head.osts (printed past)) (printed past)
+pub glimpse_law : (head : Head) (past : List Line) → BareGrown head past → Holds (Glimpse head.osts (printed past)) (printed past)
 glimpse_law head past g = glimpse_of head (is_gone (printed past)) past g

@@ -1,5 +1,5 @@
 -- The granted locks that a printed past shows: each was given, and each lock that a target has granted and whose release it hasn't shown
--- is among them, but for those on names of what was just done. None waits.
+-- is among them, but for those on names of what was just done.
 use Rattle.std.proofs.Common.{◌≡◌, ℕ, Bool, true, false, List, [], ◌∷◌, ◌⊎◌, inl, inr, ⊎_elim, Some, None, refl, sym, subst, ap, ◌∙◌}
 use Rattle.std.specs.Prelude.{nat_eq, not, ◌&&◌, if◌then◌else◌}
 use Rattle.std.proofs.lemmas.Bool.{and_parts, cond_both, cond-true, cond-false, eqb-true, true≢false}
@@ -11,7 +11,7 @@ use Rattle.lu_base.specs.declared.locks.Lock.{Lock}
 use Rattle.lu_msg.specs.declared.messages.Message.TheVariants as message
 use Rattle.lu_machine.specs.Tree.{same_life}
 use Rattle.lu_words.specs.Carried.{Deed}
-use Rattle.lu_words.specs.Words.{Entry, Send, Act, Grant, Wait, Release, Crash, Close, Restore, Evict, Line, line, is_target}
+use Rattle.lu_words.specs.Words.{Entry, Send, Act, Grant, Release, Crash, Close, Restore, Line, line, is_target}
 use Rattle.lu_words.specs.Concerns.{concerns, only}
 use Rattle.lu_words.specs.Printed.{printed}
 use Rattle.lu_target_rows.specs.Locks.{with_lock, with_locks, without_lock}
@@ -19,21 +19,19 @@ use Rattle.lu_covered.specs.TargetStates.{server_of, shown_of}
 use Rattle.lu_covered.specs.TargetCloses.{closing_of}
 use Rattle.lu_covered.specs.Heads.{Head}
 use Rattle.lu_laws.specs.Words.Pasts.{or_else}
-use Rattle.lu_laws.specs.Words.Queues.{has_cookie, without, of_others, without_first, granted, waiting}
+use Rattle.lu_laws.specs.Words.Queues.{has_cookie, without, granted}
 use Rattle.lu_laws.specs.Words.Held.{is_given, given}
-use Rattle.lu_guards.proofs.Guards.{In, Did, Shows, Answers, Owes, EntryOk}
+use Rattle.lu_guards.proofs.Guards.{In, Did, Shows, Owes, EntryOk}
 use Rattle.lu_guards.proofs.StoryGuards.{IsServing}
 use Rattle.lu_guards.proofs.Grown.{Allowed, Grown}
 use Rattle.lu_guards.proofs.Lists.{self, in_filter, in_filtered, life_self}
-use Rattle.lu_facts.proofs.Groups.{turn}
+use Rattle.lu_facts.proofs.Groups.{turn, Acted}
 use Rattle.lu_facts.proofs.LockLists.{with_in, withs_in}
 use Rattle.lu_facts.proofs.All.{holds}
 use Rattle.lu_lawful.proofs.Printed.{flip}
 use Rattle.lu_lawful.proofs.CloseSlots.{NoneLeft}
 use Rattle.lu_lawful.proofs.Story.{target_is}
-use Rattle.lu_lawful.proofs.Deeds.{act_for}
-use Rattle.lu_lawful.proofs.Sized.{gave_first}
-use Rattle.lu_lawful.proofs.Given.{owed, did_one, entered_not_did, names_granted, Showed, all_given}
+use Rattle.lu_lawful.proofs.Given.{Pays, owed, did_one, entered_not_did, names_granted, locks_first, Showed, all_given}
 
 -- ---- what is granted was shown
 
@@ -143,7 +141,7 @@ module _ (t : ℕ) where
       by : (node : Node) (e : Entry) → Allowed head past (turn x.at.stamp node) e → Did (line (turn x.at.stamp node) e ∷ past) d → Shows (line (turn x.at.stamp node) e ∷ past) l → (Did past d → Shows past l → In l G)
           → In l (granted t (printed (line (turn x.at.stamp node) e ∷ past)))
       by (Client c) (Grant lock asked) a i s h = absurd a.ok
-      by (Target u) (Grant lock None) a i s h = absurd a.ok
+      by (Target u) (Grant lock None) a i s h = absurd (cc)
       by (Target u) (Grant lock (Some f)) a i s h =
           let ok = names_granted head past x.at.stamp u lock f d l a i j in
           subst (λ (ls : List Lock). In l ls) (sym (cond-true (nat_eq u t) (lock ∷ G) G (subst (λ (v : ℕ). nat_eq u v ≡ true) (ok.0 ∙ sym z) (self u))))
@@ -151,7 +149,7 @@ module _ (t : ℕ) where
       by _ e a i s h = absurd s
 
   -- where nothing was just done
-  settles : (past : List Line) (at : At) (e : Entry) (l : Lock) → Owes past at e → ((d : Deed) → Answers at d e → ⊥) → IsGranted past l → In l (granted t (printed past))
+  settles : (past : List Line) (at : At) (e : Entry) (l : Lock) → Owes past at e → ((d : Deed) → Pays at d e → ⊥) → IsGranted past l → In l (granted t (printed past))
   settles past at e l owes none (inl i) = i
   settles past at e l owes none (inr j) = absurd (none j.0 (owed past at j.0 e j.1 owes))
 
@@ -194,8 +192,8 @@ module _ (t : ℕ) where
 
       first : nat_eq t u ≡ true → In l d.reply.locks → t ≡ 0
       first e q =
-          let node = gave_first head (line (turn stamp (Target u)) (Act d) ∷ past) d l (a, g) (inl refl) q in
-          eqb-true t u e ∙ target_is u 0 (sym (ap (λ (v : At). v.node) (act_for head past stamp u d a).turn) ∙ node)
+          locks_first head (line (turn stamp (Target u)) (Act d) ∷ past) t d l (a, g)
+          (subst (λ (b : Bool). Acted (if b then line (turn stamp (Target u)) (Act d) ∷ only t past else only t past) d) (sym e) (inl refl)) q
   keeps_granted head past stamp (Client c) (Release lock) a g h l i = absurd a.ok
   keeps_granted head past stamp (Target u) (Release lock) a g h l i =
       cond_both (nat_eq t u) (without_lock lock (shown_at past)) (shown_at past) (λ (ls : List Lock). In l ls → IsGranted new l)
@@ -213,7 +211,15 @@ module _ (t : ℕ) where
       old : In l (shown_at past) → In l G
       old q = settles past (turn stamp (Target u)) (Release lock) l a.owes (λ f w. w) (h l q)
   keeps_granted head past stamp (Client c) (Grant lock asked) a g h l i = absurd a.ok
-  keeps_granted head past stamp (Target u) (Grant lock None) a g h l i = absurd a.ok
+  keeps_granted head past stamp (Target u) (Grant lock None) a g h l i =
+      cond_both (nat_eq t u) (with_lock lock (shown_at past)) (shown_at past) (λ (ls : List Lock). In l ls → IsGranted (line (turn stamp (Target u)) (Grant lock None) ∷ past) l)
+      (λ e j. inl (subst (λ (ls : List Lock). In l ls) (sym (cond-true (nat_eq u t) (lock ∷ granted t (printed past)) (granted t (printed past)) (flip u t ∙ e)))
+      (⊎_elim (λ (q : lock ≡ l). inl q) (λ (q : In l (shown_at past)). inr (old q)) (with_in lock l (shown_at past) j))))
+      (λ e j. inl (subst (λ (ls : List Lock). In l ls) (sym (cond-false (nat_eq u t) (lock ∷ granted t (printed past)) (granted t (printed past)) (flip u t ∙ e))) (old j)))
+      i
+    where
+      old : In l (shown_at past) → In l (granted t (printed past))
+      old q = settles past (turn stamp (Target u)) (Grant lock None) l a.owes (λ f w. w) (h l q)
   keeps_granted head past stamp (Target u) (Grant lock (Some f)) a g h l i = granted_line head past stamp u lock f a.ok h l i
   keeps_granted head past stamp (Target u) (Send (Client c) (message.Reply r)) a g h l i =
       ⊎_elim (λ (q : In l (granted t (printed past))). inl q) (λ (q : JustGave past l). inl (shows_granted head past q.0 l g q.2 q.1 q.3 (a.ok.2 q.0 q.1 l q.3))) (h l i)
@@ -316,21 +322,3 @@ module _ (t : ℕ) where
 
   pub given_is : (head : Head) (past : List Line) (l : Lock) → Grown head past → Unique past → Showed t past l → given t l.ask.who l.cookie.0 (printed past) ≡ Some l
   given_is head past l g one s = given_before head past l g (λ k i e. one k l i s e) s
-
-  -- ---- none waits
-
-  pub none_waits : (head : Head) (past : List Line) → Grown head past → waiting t (printed past) ≡ []
-  none_waits head [] g = refl
-  none_waits head (x ∷ past) g = by x.at.node x.entry g.0.ok (none_waits head past g.1)
-    where
-      by : (node : Node) (e : Entry) → EntryOk past (turn x.at.stamp node) node e → waiting t (printed past) ≡ [] → waiting t (printed (line (turn x.at.stamp node) e ∷ past)) ≡ []
-      by (Client c) (Grant lock asked) ok h = absurd ok
-      by (Target u) (Grant lock asked) ok h =
-          cond_both (nat_eq u t) (without_first lock.cookie.0 (waiting t (printed past))) (waiting t (printed past)) (λ (ls : List Lock). ls ≡ []) (λ e. ap (without_first lock.cookie.0) h) (λ e. h)
-      by (Client c) (Wait lock asked) ok h = absurd ok
-      by (Target u) (Wait lock asked) ok h = absurd ok
-      by (Client c) (Evict who cause) ok h = absurd ok
-      by (Target u) (Evict who cause) ok h = cond_both (nat_eq u t) (of_others who (waiting t (printed past))) (waiting t (printed past)) (λ (ls : List Lock). ls ≡ []) (λ e. ap (of_others who) h) (λ e. h)
-      by (Client c) Crash ok h = absurd ok
-      by (Target u) Crash ok h = cond_both (nat_eq u t) [] (waiting t (printed past)) (λ (ls : List Lock). ls ≡ []) (λ e. refl) (λ e. h)
-      by node e ok h = h

@@ -26,11 +26,12 @@ use Rattle.lu_trace.specs.declared.entries.Entry.TheVariants as trace
 use Rattle.lu_machine.specs.Fits.{answer_fits}
 use Rattle.lu_machine.specs.Tree.{same_life}
 use Rattle.lu_words.specs.Carried.{Deed, HandleFile, Asking, Unasked, Stage, Plain, Bad, Work, Running}
-use Rattle.lu_words.specs.Words.{Entry, Begin, Told, Life, Act, Txn as Made, Grant, Line, line}
+use Rattle.lu_words.specs.Words.{Entry, Begin, Told, Life, Act, Txn as Made, Grant, Wait, Answers as Responds, Line, line}
+use Rattle.lu_words.specs.Concerns.{only}
 use Rattle.lu_words.specs.Printed.{printed}
 use Rattle.lu_client_rows.specs.Slots as slots
 use Rattle.lu_covered.specs.Calls.{call_at, life_at, operation_of, becomes, told_as, opened_by, opened, binds, told_file, begun_file, file_at, file_for, is_opening, is_bad}
-use Rattle.lu_covered.specs.Covered.{IsOnSizes}
+use Rattle.lu_covered.specs.Covered.{IsOnBytes}
 use Rattle.lu_covered.specs.Known.{notes_at, known_answer}
 use Rattle.lu_covered.specs.Heads.{Head}
 use Rattle.lu_laws.specs.Words.Lives.{life, is_by}
@@ -38,7 +39,7 @@ use Rattle.lu_laws.specs.Words.Pasts as pasts
 use Rattle.lu_laws.specs.Words.Pasts.{or_else}
 use Rattle.lu_laws.specs.Words.Calls as calls
 use Rattle.lu_laws.specs.Words.Calls.{Binding, bound, binding, told_binding, begun_binding, number_in, number_heard, heard_in, open_call, operation}
-use Rattle.lu_guards.proofs.Guards.{JustHeard, Later, Ending, Closes, Begins, LifeOk, ToldOk, EntryOk}
+use Rattle.lu_guards.proofs.Guards.{JustHeard, WritesOn, CutsOn, Later, Ending, Closes, Begins, LifeOk, ToldOk, EntryOk}
 use Rattle.lu_guards.proofs.Grown.{Allowed, Grown}
 use Rattle.lu_guards.proofs.Lists.{self, life_is}
 use Rattle.lu_facts.proofs.Groups.{turn, Acted}
@@ -50,11 +51,13 @@ use Rattle.lu_facts.proofs.Transactions.{opened_number}
 use Rattle.lu_lawful.proofs.Turns.{same_turn_is}
 use Rattle.lu_lawful.proofs.Printed.{flip, its_client, life_number, present_is, OfBoth, both_calls, calls_are}
 use Rattle.lu_lawful.proofs.Hearing.{just_heard}
-use Rattle.lu_lawful.proofs.Story.{grant_made}
+use Rattle.lu_facts.proofs.GrantLines.{made_before}
 use Rattle.lu_lawful.proofs.ActsLaw.{own_line}
 use Rattle.lu_lawful.proofs.Deeds.{act_for}
 use Rattle.lu_lawful.proofs.Once.{txn_now}
 use Rattle.lu_facts.proofs.Lines.{acted_whole}
+use Rattle.lu_facts.proofs.ObjectDeeds.{told_number, wait_told, answers_told}
+use Rattle.lu_facts.proofs.Sides.{first_at}
 use Rattle.lu_facts.proofs.ToldFiles.{plain_first}
 use Rattle.lu_guards.proofs.ClientHandles.{none_there}
 
@@ -121,9 +124,9 @@ begin_bound h (call.Close other) b f e = by (nat_eq other h)
 begin_bound h x b f e = e
 
 -- a transaction's number by the laws: that of its turn, life and request number
-number_is : (head : Head) (past : List Line) (d : Deed) → Grown head past → Acted past d → 1 ≤ d.reply.txn.0 → number_in (printed past) d.reply.at d.reply.who d.reply.xid.0 ≡ Some d.reply.txn
-number_is head [] d g a high = absurd a
-number_is head (l ∷ past) d g a high = by l.at.node l.entry g.0 a (λ i. number_is head past d g.1 i high)
+number_is : (head : Head) (past : List Line) (d : Deed) → Grown head past → Acted past d → d.reply.at.node ≡ Target 0 → 1 ≤ d.reply.txn.0 → number_in (printed past) d.reply.at d.reply.who d.reply.xid.0 ≡ Some d.reply.txn
+number_is head [] d g a first high = absurd a
+number_is head (l ∷ past) d g a first high = by l.at.node l.entry g.0 a (λ i. number_is head past d g.1 i first high)
   where
     at_once : (b : Bool) (n : TxnOf) (old : Option TxnOf) → b ≡ true → or_else (if b then Some n else None) old ≡ Some n
     at_once true n old e = refl
@@ -146,7 +149,7 @@ number_is head (l ∷ past) d g a high = by l.at.node l.entry g.0 a (λ i. numbe
         let now = txn_now head past l.at.stamp (Target t) e k g.1 in
         subst (λ (v : Deed). number_in (printed (line (turn l.at.stamp (Target t)) (Made e) ∷ past)) v.reply.at v.reply.who v.reply.xid.0 ≡ Some v.reply.txn) same
         (at_once (pasts.is_target 0 (Target t) && pasts.same_turn (turn l.at.stamp (Target t)) e.reply.at && same_life e.reply.who e.reply.who && nat_eq e.reply.xid.0 e.reply.xid.0) e.reply.txn (number_in (printed past) e.reply.at e.reply.who e.reply.xid.0)
-        (own_line (turn l.at.stamp (Target t)) e.reply.at e.reply.who e.reply.xid.0 (sym now.turn) (ap Target k.ok)))
+        (own_line (turn l.at.stamp (Target t)) e.reply.at e.reply.who e.reply.xid.0 (sym now.turn) (ap (λ (v : At). v.node) (sym now.turn) ∙ ap (λ (v : Deed). v.reply.at.node) same ∙ first)))
     by (Target t) (Made e) k (inr i) h =
         let now = txn_now head past l.at.stamp (Target t) e k g.1 in
         before (pasts.is_target 0 (Target t) && pasts.same_turn (turn l.at.stamp (Target t)) d.reply.at && same_life e.reply.who d.reply.who && nat_eq e.reply.xid.0 d.reply.xid.0) e.reply.txn (number_in (printed past) d.reply.at d.reply.who d.reply.xid.0) (Some d.reply.txn)
@@ -156,8 +159,18 @@ number_is head (l ∷ past) d g a high = by l.at.node l.entry g.0 a (λ i. numbe
         let r = and_parts (pasts.is_target 0 (Target t)) (pasts.same_turn (turn l.at.stamp (Target t)) d.reply.at) q.0 in
         now.now d i (sym (same_turn_is (turn l.at.stamp (Target t)) d.reply.at r.1)) (sym (life_is e.reply.who d.reply.who q.1)) (sym (eqb-true e.reply.xid.0 d.reply.xid.0 p.1)))
         (h i)
-    by node (Grant lock asked) k (inl q) h = h (grant_made head past l.at.stamp node lock asked d k q high)
+    by node (Grant lock asked) k (inl q) h = h (made_before head past l.at.stamp node lock asked d k q high)
     by node (Grant lock asked) k (inr i) h = h i
+    by (Client c) (Wait lock e) k a h = absurd k.ok
+    by (Target t) (Wait lock e) k (inl same) h =
+        let none = told_number head.osts (only t past) e (wait_told head.osts (only t past) (turn l.at.stamp (Target t)) lock e (k.of t (self t)).1) in
+        absurd (let zero : d.reply.txn.0 ≡ e.reply.txn.0 = ap (λ (v : Deed). v.reply.txn.0) (sym same) in omega (arith, high, zero, none))
+    by (Target t) (Wait lock e) k (inr i) h = h i
+    by (Client c) (Responds e) k a h = absurd k.ok
+    by (Target t) (Responds e) k (inl same) h =
+        let none = told_number head.osts (only t past) e (answers_told head.osts (only t past) (turn l.at.stamp (Target t)) t e (k.of t (self t)).1) in
+        absurd (let zero : d.reply.txn.0 ≡ e.reply.txn.0 = ap (λ (v : Deed). v.reply.txn.0) (sym same) in omega (arith, high, zero, none))
+    by (Target t) (Responds e) k (inr i) h = h i
     by _ _ k a h = h a
 
 -- an open that is told ok binds its handle to the file of the reply
@@ -174,7 +187,8 @@ module _ (head : Head) (c : ℕ) (past : List Line) (stamp : Stamp) (g : Grown h
   its_number slot other path named given work ok f is says =
       let replied = (holds head past g).replies c slot ok.target ok.running ok.reply ok.call ok.answered in
       let d = replied.deed in
-      let just = subst (λ (t : ℕ). JustHeard past at t ok.reply) (plain_first ok.running ok.target d.op replied.op ok.good).0 ok.heard in
+      let meta = (plain_first ok.running ok.target d.op replied.op ok.good).0 in
+      let just = subst (λ (t : ℕ). JustHeard past at t ok.reply) meta ok.heard in
       let acted = acted_whole ok.target past d replied.acted in
       let answered : d.reply.answer ≡ told.OpenFile f.fid f.number f.layout = ap (λ (v : ReplyTo). v.answer) replied.is ∙ says in
       let made = opened_number head past d f.fid f.number f.layout g acted answered in
@@ -185,7 +199,7 @@ module _ (head : Head) (c : ℕ) (past : List Line) (stamp : Stamp) (g : Grown h
       ap (λ (o : Option ℕ). number_heard (printed past) named (life_at c past) o) heard
       ∙ ap (λ (v : At). calls.number_in (printed past) v (life_at c past) d.reply.xid.0) (sym when)
       ∙ ap (λ (v : Who). calls.number_in (printed past) d.reply.at v d.reply.xid.0) (sym who)
-      ∙ number_is head past d g acted made.1
+      ∙ number_is head past d g acted (first_at head past d g (subst (λ (t : ℕ). Acted (only t past) d) meta replied.acted)) made.1
       ∙ ap (λ (v : TxnOf). Some v) (sym made.0)
 
   -- an open isn't answered as what makes a file is
@@ -274,11 +288,15 @@ module _ (head : Head) (c h : ℕ) where
       by (inr (inl a)) = inr (of a.running a.call (λ other path is. let none : known_answer (notes_at c past) (call.Open other path) ≡ Some given = ap (λ (v : Call). known_answer (notes_at c past) v) (sym is) ∙ a.known in absurd (cc)))
       by (inr (inr (inl a))) = inl (refl, noticed_more (line (turn stamp (Client c)) (Told slot named given work)) past (turn stamp (Client c)) (life_at c past) a.notice)
       by (inr (inr (inr (inl a)))) = inr (of a.running a.call (λ other path is. asked_none a.running.asking (bad_unasked head past g c slot a.running a.call a.bad) (told.Refused EBADF) a.of_answer refl))
-      by (inr (inr (inr (inr (inl a))))) = inr (of a.running a.call (λ other path is. let no : call.Open other path ≡ call.Glimpse a.handle = sym is ∙ a.glimpses in absurd (cc)))
+      by (inr (inr (inr (inr (inl a))))) = inr (of a.running a.call (λ other path is. let no : call.Open other path ≡ call.Glimpse a.has.handle = sym is ∙ a.has.glimpses in absurd (cc)))
       by (inr (inr (inr (inr (inr (inl a)))))) = inr (of a.running a.call (λ other path is. let no : call.Open other path ≡ call.Flush a.handle = sym is ∙ a.flushes in absurd (cc)))
       by (inr (inr (inr (inr (inr (inr (inl a))))))) =
-          inr (of a.running a.call (λ other path is. let no : call.Open other path ≡ call.Read a.read.handle a.read.offset a.read.count = sym is ∙ a.read.reads in absurd (cc)))
-      by (inr (inr (inr (inr (inr (inr (inr a))))))) = inr (of a.running a.call (λ other path is. let no : call.Open other path ≡ call.Stat a.stat.path = sym is ∙ a.stat.stats in absurd (cc)))
+          inr (of a.running a.call (λ other path is. let no : call.Open other path ≡ call.Read a.does.read.handle a.does.read.offset a.does.read.count = sym is ∙ a.does.read.reads in absurd (cc)))
+      by (inr (inr (inr (inr (inr (inr (inr (inl a)))))))) = inr (of a.running a.call (λ other path is. let no : call.Open other path ≡ call.Stat a.stat.path = sym is ∙ a.stat.stats in absurd (cc)))
+      by (inr (inr (inr (inr (inr (inr (inr (inr a)))))))) = inr (of a.running a.call (λ other path is. ⊎_elim
+          (λ (w : WritesOn a.running a.done). let no : call.Open other path ≡ call.Write w.handle w.offset w.bytes = sym is ∙ w.writes in absurd (cc))
+          (λ (w : CutsOn a.running a.done). let no : call.Open other path ≡ call.Cut w.handle w.size = sym is ∙ w.cuts in absurd (cc))
+          a.does))
 
   tied : (past : List Line) → Grown head past → Ending past c ⊎ IsTied past
   tied [] g = inr refl
@@ -392,11 +410,13 @@ module _ (head : Head) (c : ℕ) (past : List Line) (g : Grown head past) (at : 
   meant_good (call.Close h) file fine is o e = (ap (λ (f : Option HandleFile). operation_of f (call.Close h)) is ∙ closes_it h (file_at c h past) ∙ ap calls.closes (sym (bound_is h)), sym (close_bad h ∙ fine))
   meant_good x file fine is o e = absurd (cc)
 
-  meant_sizes : (x : Call) (file : Option HandleFile) → is_bad c past x ≡ false → IsOnSizes x → IsMeant x file Plain
-  meant_sizes (call.Read h offset count) file fine sizes = (refl, sym (close_bad h ∙ fine))
-  meant_sizes (call.Flush h) file fine sizes = (refl, sym (close_bad h ∙ fine))
-  meant_sizes (call.Glimpse h) file fine sizes = (refl, sym (close_bad h ∙ fine))
-  meant_sizes x file fine sizes = absurd sizes
+  meant_bytes : (x : Call) (file : Option HandleFile) → is_bad c past x ≡ false → IsOnBytes x → IsMeant x file Plain
+  meant_bytes (call.Read h offset count) file fine sizes = (refl, sym (close_bad h ∙ fine))
+  meant_bytes (call.Write h offset bytes) file fine sizes = (refl, sym (close_bad h ∙ fine))
+  meant_bytes (call.Cut h size) file fine sizes = (refl, sym (close_bad h ∙ fine))
+  meant_bytes (call.Flush h) file fine sizes = (refl, sym (close_bad h ∙ fine))
+  meant_bytes (call.Glimpse h) file fine sizes = (refl, sym (close_bad h ∙ fine))
+  meant_bytes x file fine sizes = absurd sizes
 
   meant_bad : (x : Call) (file : Option HandleFile) → is_bad c past x ≡ true → file ≡ None → IsMeant x file Bad
   meant_bad (call.Open h path) file bad is = (refl, sym (open_bad h path ∙ bad))
@@ -413,18 +433,20 @@ module _ (head : Head) (c : ℕ) (past : List Line) (g : Grown head past) (at : 
 
   meant_begin : (r : Running) → Begins c past r → IsMeant r.call r.file r.stage
   meant_begin r begins = ⊎_elim
-      (λ (p : (is_bad c past r.call ≡ false) × (r.stage ≡ Plain) × (r.file ≡ file_for c past r.call) × (((o : Op) × (becomes r ≡ Some o)) ⊎ IsOnSizes r.call)). subst (λ (v : Stage). IsMeant r.call r.file v) (sym p.1)
-      (⊎_elim (λ (q : (o : Op) × (becomes r ≡ Some o)). meant_good r.call r.file p.0 p.2 q.0 q.1) (λ (q : IsOnSizes r.call). meant_sizes r.call r.file p.0 q) p.3))
+      (λ (p : (is_bad c past r.call ≡ false) × (r.stage ≡ Plain) × (r.file ≡ file_for c past r.call) × (((o : Op) × (becomes r ≡ Some o)) ⊎ IsOnBytes r.call)). subst (λ (v : Stage). IsMeant r.call r.file v) (sym p.1)
+      (⊎_elim (λ (q : (o : Op) × (becomes r ≡ Some o)). meant_good r.call r.file p.0 p.2 q.0 q.1) (λ (q : IsOnBytes r.call). meant_bytes r.call r.file p.0 q) p.3))
       (λ (p : (is_bad c past r.call ≡ true) × (r.stage ≡ Bad) × (r.file ≡ None)). subst (λ (v : Stage). IsMeant r.call r.file v) (sym p.1) (meant_bad r.call r.file p.0 p.2))
       begins
 
--- a call on the sizes of a file is bad by the laws where its handle was bound to nothing
-open_bound : (c slot : ℕ) (past : pasts.Past) (b : calls.Begun) → open_call c slot past ≡ Some b → IsOnSizes b.call → b.bad ≡ not (is_some b.bound)
+-- a call on the bytes of a file is bad by the laws where its handle was bound to nothing
+open_bound : (c slot : ℕ) (past : pasts.Past) (b : calls.Begun) → open_call c slot past ≡ Some b → IsOnBytes b.call → b.bad ≡ not (is_some b.bound)
 open_bound c slot [] b e sizes = absurd (cc)
 open_bound c slot (l ∷ past) b e sizes = by l.entry e (λ q. open_bound c slot past b q sizes)
   where
-    its_own : (x : Call) → IsOnSizes x → calls.is_bad c past x ≡ not (is_some (calls.bound_by c past (calls.handle_of x)))
+    its_own : (x : Call) → IsOnBytes x → calls.is_bad c past x ≡ not (is_some (calls.bound_by c past (calls.handle_of x)))
     its_own (call.Read h offset count) sizes = refl
+    its_own (call.Write h offset bytes) sizes = refl
+    its_own (call.Cut h size) sizes = refl
     its_own (call.Flush h) sizes = refl
     its_own (call.Glimpse h) sizes = refl
     its_own x sizes = absurd sizes
@@ -433,7 +455,7 @@ open_bound c slot (l ∷ past) b e sizes = by l.entry e (λ q. open_bound c slot
     begun_is x y e = cc
 
     now : (x : Call) → Some (calls.begun c past l.at x) ≡ Some b → b.bad ≡ not (is_some b.bound)
-    now x e = let same = begun_is (calls.begun c past l.at x) b e in subst (λ (v : calls.Begun). v.bad ≡ not (is_some v.bound)) same (its_own x (subst (λ (v : calls.Begun). IsOnSizes v.call) (sym same) sizes))
+    now x e = let same = begun_is (calls.begun c past l.at x) b e in subst (λ (v : calls.Begun). v.bad ≡ not (is_some v.bound)) same (its_own x (subst (λ (v : calls.Begun). IsOnBytes v.call) (sym same) sizes))
 
     by : (x : PrintedEntry) → open_call c slot (record { at = l.at; entry = x } ∷ past) ≡ Some b → (open_call c slot past ≡ Some b → b.bad ≡ not (is_some b.bound)) → b.bad ≡ not (is_some b.bound)
     by (trace.Begin other x) e ih =
@@ -444,7 +466,7 @@ open_bound c slot (l ∷ past) b e sizes = by l.entry e (λ q. open_bound c slot
     by _ e ih = ih e
 
 -- so a good one is of a file
-pub file_there : (c slot : ℕ) (past : pasts.Past) (b : calls.Begun) → open_call c slot past ≡ Some b → IsOnSizes b.call → b.bad ≡ false → (f : Fid) × (calls.file_of b ≡ Some f)
+pub file_there : (c slot : ℕ) (past : pasts.Past) (b : calls.Begun) → open_call c slot past ≡ Some b → IsOnBytes b.call → b.bad ≡ false → (f : Fid) × (calls.file_of b ≡ Some f)
 file_there c slot past b e sizes good = by b.bound (sym (open_bound c slot past b e sizes) ∙ good)
   where
     by : (o : Option Binding) → not (is_some o) ≡ false → (f : Fid) × (option_map (λ (v : Binding). v.fid) o ≡ Some f)

@@ -15,6 +15,7 @@ use Rattle.lu_words.specs.Carried.{Deed}
 use Rattle.lu_words.specs.Words.{Line}
 use Rattle.lu_covered.specs.TargetParts.{operation}
 use Rattle.lu_covered.specs.TargetStates.{server_of}
+use Rattle.lu_guards.proofs.ClientLines.{IsNames}
 use Rattle.lu_guards.proofs.Guards.{In}
 use Rattle.lu_facts.proofs.Groups.{Acted, IsMade, Stands, ItemOk, AllItems, forgetting}
 use Rattle.lu_facts.proofs.ItemLists.{same_forgot}
@@ -88,16 +89,16 @@ module _ (osts : ℕ) (past : List Line) (lost : ℕ → ℕ → Bool) where
       by true e h = ap (λ (js : List Item). if keep lost a.number.0 then Acts a ∷ js else js) h
       by false e h = h ∙ sym (ap (λ (b : Bool). if b then Acts a ∷ pick (keep lost) is else pick (keep lost) is) (out e))
 
-  -- where each transaction that stands and wrote what is touched stays, so does all that is seen
-  pub seen_stays : (touched : List Part) (is : List Item) → AllItems osts past is → ((d : Deed) → Acted past d → IsMade d → Stands osts past d → meet d.writes touched ≡ true → Stays d) → Every (λ n. keep lost n ≡ true) (seen osts (whole osts) is touched)
-  seen_stays touched [] all stay = tt
-  seen_stays touched (Forgets who ∷ is) all stay = seen_stays touched is all stay
-  seen_stays touched (Acts a ∷ is) all stay =
+  -- where each transaction on names that stands and wrote what is touched stays, so does all that is seen
+  pub seen_stays : ((d : Deed) → Acted past d → IsNames d.op) → (touched : List Part) (is : List Item) → AllItems osts past is → ((d : Deed) → Acted past d → IsMade d → Stands osts past d → meet d.writes touched ≡ true → Stays d) → Every (λ n. keep lost n ≡ true) (seen osts (whole osts) is touched)
+  seen_stays names touched [] all stay = tt
+  seen_stays names touched (Forgets who ∷ is) all stay = seen_stays names touched is all stay
+  seen_stays names touched (Acts a ∷ is) all stay =
       let ok : ItemOk osts past is a = all.0 in
       let rest = seen osts (whole osts) is touched in
-      let more = seen_stays touched is all.1 stay in
+      let more = seen_stays names touched is all.1 stay in
       cond_both (meet (writes osts (whole osts is) a) touched) (a.number.0 ∷ rest) rest (λ (ns : List ℕ). Every (λ n. keep lost n ≡ true) ns)
-      (λ m. (ap (λ (n : ℕ). not (lost 0 n)) (number_is ok.deed a ok.operates) ∙ ap not (stay ok.deed ok.acted ok.made ok.stands (ap (λ (ws : List Part). meet ws touched) ok.wrote ∙ m)), more))
+      (λ m. (ap (λ (n : ℕ). not (lost 0 n)) (number_is ok.deed a ok.operates) ∙ ap not (stay ok.deed ok.acted ok.made ok.stands (ap (λ (ws : List Part). meet ws touched) (ok.wrote (subst (λ (o : Operation). IsNames o.op) ok.operates (names ok.deed ok.acted))) ∙ m)), more))
       (λ m. more)
 
   -- what is seen are numbers of transactions that stand

@@ -1,4 +1,4 @@
--- The law of history: with the lost transactions taken out, the plain machine answers what clients were told, and
+-- The law of history in a run that changes no bytes: with the lost transactions taken out, the plain machine answers what clients were told, and
 -- refuses no transaction that stands. A flush that is told changes nothing of it, and a glimpse is no item. It has more opens than the
 -- contents, which lose those of a life that leaves; no part that is looked at holds opens.
 use Rattle.std.proofs.Common.{◌*◌, ◌≡◌, ℕ, zero, suc, ◌+◌, ◌<◌, ◌≤◌, Bool, true, false, List, [], ◌∷◌, ◌⊎◌, Option, Some, None, inl, inr, ⊎_elim, refl, sym, subst, ap, ◌∙◌, arith}
@@ -39,18 +39,18 @@ use Rattle.lu_machine.proofs.Removal.{earlier_are_older}
 use Rattle.lu_machine.proofs.Seen.{removal_by_seen}
 use Rattle.lu_machine.proofs.Transactions.{readings_change_nothing, machine_is_table}
 use Rattle.lu_words.specs.Carried.{Deed, Outcome, Work, Stage, Plain, Bad, Running}
-use Rattle.lu_words.specs.Words.{Entry, Heard, Told, Act, Txn as Made, Grant, Commit, Close, Evict, Line, line}
+use Rattle.lu_words.specs.Words.{Entry, Heard, Hold, Told, Act, Txn as Made, Grant, Wait, Answers as Responds, Commit, Close, Evict, Line, line}
 use Rattle.lu_words.specs.Concerns.{concerns, only}
 use Rattle.lu_words.specs.Printed.{printed}
 use Rattle.lu_covered.specs.Calls.{life_at, call_at, operation_of}
 use Rattle.lu_covered.specs.Known.{notes_at}
 use Rattle.lu_covered.specs.TargetParts.{operation}
-use Rattle.lu_covered.specs.TargetStates.{boot_at, count_at, committed_at, tree_at, log_at, server_at, server_of, seen_in}
+use Rattle.lu_covered.specs.TargetStates.{boot_at, count_at, committed_at, tree_at, log_at, server_at, server_of, next_number, seen_in}
 use Rattle.lu_covered.specs.TargetCloses.{is_lost, loses, closing_of}
 use Rattle.lu_target_rows.specs.Lives.{lives_of as lives_in}
 use Rattle.lu_covered.specs.Heads.{Head}
 use Rattle.lu_laws.specs.Words.Pasts.{same_turn, is_target}
-use Rattle.lu_laws.specs.Words.Lives.{who_is, is_evicted, is_gone}
+use Rattle.lu_laws.specs.Words.Lives.{who_is}
 use Rattle.lu_laws.specs.Words.Requests.{asked}
 use Rattle.lu_laws.specs.Words.Calls.{Begun, open_call}
 use Rattle.lu_laws.specs.Words.Histories.{none, names_act, acts_as, is_answer, is_counted, told_item, after_item, machine_of, answer_to, answer_there}
@@ -59,11 +59,13 @@ use Rattle.lu_laws.proofs.Leaves.{acts_leave}
 use Rattle.lu_laws.proofs.Tests.{both, settled}
 use Rattle.lu_laws.specs.Laws.History.{is_accepted, heard_answer, right_answer, ToldOn, ToldAt, HistoryOf}
 use Rattle.lu_laws.specs.Laws.History as law
-use Rattle.lu_lawful.specs.Fits.{AllStand, SeenStand, ReplyStands, HeardStand, CommitsStand, EvictedOut, WasMade, Fits}
+use Rattle.lu_lawful.specs.Fits.{AllStand, SeenStand, ReplyStands, HeardStand, HeldStand, CommitsStand, EvictedOut, WasMade, Fits}
 use Rattle.lu_guards.proofs.Guards.{In}
+use Rattle.lu_guards.proofs.StoryGuards.{EntryOf}
+use Rattle.lu_guards.proofs.ClientLines.{IsNames}
 use Rattle.lu_guards.proofs.Grown.{Allowed, Grown}
 use Rattle.lu_guards.proofs.PinsFit.{PinsFit}
-use Rattle.lu_guards.proofs.Lists.{life_is, life_self}
+use Rattle.lu_guards.proofs.Lists.{life_is}
 use Rattle.lu_guards.proofs.Parts.{tree_is, log_is, committed_is}
 use Rattle.lu_guards.proofs.ClientLocks.{any_true}
 use Rattle.lu_facts.proofs.Finds.{numbers_at, numbers_up}
@@ -73,25 +75,30 @@ use Rattle.lu_facts.proofs.All.{holds}
 use Rattle.lu_facts.proofs.Lines.{acted_whole}
 use Rattle.lu_facts.proofs.OnNames.{IsPlain, told_so, reading_told}
 use Rattle.lu_facts.proofs.Refused.{acted_plain}
-use Rattle.lu_facts.proofs.Known.{right, SawBy, known_saw, heard_by_whole}
+use Rattle.lu_facts.proofs.Known.{right, SawBy, known_saw}
 use Rattle.lu_facts.proofs.StatFacts.{stat_right}
-use Rattle.lu_lawful.proofs.Commits.{made_more}
+use Rattle.lu_facts.proofs.Sides.{first_at, acted_kind}
+use Rattle.lu_facts.proofs.BareGuards.{BareGrown, wide}
+use Rattle.lu_lawful.proofs.NewDeeds.{client_acted, made_new}
+use Rattle.lu_lawful.proofs.Commits.{made_more, listed}
 use Rattle.lu_lawful.proofs.Lines.{Keeps, holds_before}
 use Rattle.lu_lawful.proofs.Turns.{same_turn_is}
-use Rattle.lu_lawful.proofs.ActsLaw.{act_zero, own_line}
-use Rattle.lu_lawful.proofs.Once.{NoneNow, act_now, txn_now, granted_first}
+use Rattle.lu_lawful.proofs.ActsLaw.{own_line}
+use Rattle.lu_lawful.proofs.Once.{NoneNow, act_now, txn_now, granted_first, wait_high, responds_high}
 use Rattle.lu_lawful.proofs.Lost.{lost_whole, stood_before}
 use Rattle.lu_lawful.proofs.HistoryItems.{whole, keep, same_as, same_trans, same_self, same_forgetting, pick_again, seen_stays, all_saw}
-use Rattle.lu_lawful.proofs.Facts.{AskedAt, AllAsked, AnswersAt, KnewAt, FlushedAt, ReadAt, StatAt, TellsAt, AllTold, told_earlier}
+use Rattle.lu_lawful.proofs.Facts.{AskedAt, AllAsked}
+use Rattle.lu_lawful.proofs.Tells.{AnswersAt, KnewAt, FlushedAt, ReadAt, StatAt, TellsAt}
+use Rattle.lu_lawful.proofs.AllTold.{all_told}
 use Rattle.lu_lawful.proofs.Contents.{number_is, asked_before}
-use Rattle.lu_lawful.proofs.Deeds.{ActIs, TxnIs, act_is, txn_is}
+use Rattle.lu_lawful.proofs.Deeds.{ActIs, TxnIs, act_is, txn_is, txn_for}
 use Rattle.lu_lawful.proofs.Plain.{told_plain}
 use Rattle.lu_lawful.proofs.Fine.{known_operation}
 use Rattle.lu_lawful.proofs.Printed.{present_is, open_is}
 use Rattle.lu_lawful.proofs.CloseLines.{nothing_left}
-use Rattle.lu_lawful.proofs.CloseSlots.{LeftEvict, evicted_law}
-use Rattle.lu_lawful.proofs.Story.{about_it, target_is, story_at, grant_made, made_story}
-use Rattle.lu_lawful.proofs.ToldLaw.{Lasting, heard_stands, same_stands}
+use Rattle.lu_lawful.proofs.Story.{target_is}
+use Rattle.lu_lawful.proofs.ToldLaw.{heard_stands, same_stands}
+use Rattle.lu_lawful.proofs.Lasting.{stays_in}
 use Rattle.lu_lawful.proofs.ToldItems.{known_act, IsStill, still_there, still_stays, ToldAdds, told_adds, no_bytes, stat_none, read_none}
 
 not_zero : (t : ℕ) → nat_eq 0 (suc t) ≡ false
@@ -109,9 +116,10 @@ pub fits_before : (osts : ℕ) (out : Who → Bool) (lost : ℕ → ℕ → Bool
 fits_before osts out lost l past f =
     record {
       root = f.root;
-      stays = λ n m e. f.stays n (made_more l past n m) (lost_whole osts l past n e);
+      stays = λ t n m e. f.stays t n (made_more t l past n m) (lost_whole osts t l past n e);
       seen = seen_before l.entry f.seen;
       heard = heard_before l.entry f.heard;
+      held = held_before l.entry f.held;
       committed = commits_before osts lost l past f.committed;
       gone = gone_before l.entry f.gone;
     }
@@ -127,6 +135,10 @@ fits_before osts out lost l past f =
     heard_before : (e : Entry) → HeardStand out lost (line l.at e ∷ past) → HeardStand out lost past
     heard_before (Heard target flight reply) t = t.1
     heard_before _ t = t
+
+    held_before : (e : Entry) → HeldStand out lost (line l.at e ∷ past) → HeldStand out lost past
+    held_before (Hold target lock marked size seen) t = t.1
+    held_before _ t = t
 
 alike_trans : (osts : ℕ) (t u v : Tree) (o : Operation) → Alike osts t u o → Alike osts u v o → Alike osts t v o
 alike_trans osts t u v o a b = record { answer = a.answer ∙ b.answer; touches = a.touches ∙ b.touches; writes = a.writes ∙ b.writes; grants = a.grants ∙ b.grants; changes = a.changes ∙ b.changes }
@@ -168,21 +180,26 @@ act_here head past stamp (Client c) d first k = absurd k.ok
 act_here head past stamp (Target t) d first k =
     subst (λ (v : ℕ). Allowed head past (turn stamp (Target v)) (Act d) → ActIs head.osts (server_at head.osts 0 past) (turn stamp (Target v)) d) (sym (target_is t 0 first)) (act_is head past stamp d) k
 
-txn_here : (head : Head) (past : List Line) (stamp : Stamp) (node : Node) (d : Deed) → Allowed head past (turn stamp node) (Made d) → TxnIs head.osts (server_at head.osts 0 past) (turn stamp node) d
-txn_here head past stamp (Client c) d k = absurd k.ok
-txn_here head past stamp (Target t) d k = txn_is head past stamp t d k
+txn_here : (head : Head) (past : List Line) (stamp : Stamp) (node : Node) (d : Deed) → node ≡ Target 0 → Allowed head past (turn stamp node) (Made d) → TxnIs head.osts (server_at head.osts 0 past) (turn stamp node) d
+txn_here head past stamp (Client c) d first k = absurd k.ok
+txn_here head past stamp (Target t) d first k =
+    subst (λ (v : ℕ). Allowed head past (turn stamp (Target v)) (Made d) → TxnIs head.osts (server_at head.osts 0 past) (turn stamp (Target v)) d) (sym (target_is t 0 first)) (txn_is head past stamp d) k
+
+-- it is on names
+names : (head : Head) (past : List Line) → Grown head past → (d : Deed) → Acted (only 0 past) d → IsNames d.op
+names head past g d a = ⊎_elim (λ k. k.1) (λ k. absurd (let high = k.0 in omega (arith, high))) (acted_kind head past 0 d g a)
 
 -- ---- numbers that stand
 
-pub one_stands : (lost : ℕ → ℕ → Bool) (ns : List ℕ) (n : ℕ) → AllStand lost ns → In n ns → lost 0 n ≡ false
+pub one_stands : (lost : ℕ → Bool) (ns : List ℕ) (n : ℕ) → AllStand lost ns → In n ns → lost n ≡ false
 one_stands lost [] n s i = absurd i
-one_stands lost (m ∷ ns) n s (inl e) = ap (lost 0) (sym e) ∙ s.0
+one_stands lost (m ∷ ns) n s (inl e) = ap lost (sym e) ∙ s.0
 one_stands lost (m ∷ ns) n s (inr i) = one_stands lost ns n s.1 i
 
 -- a transaction that stands, up to the committed number
-committed_stands : (head : Head) (lost : ℕ → ℕ → Bool) (past : List Line) → Grown head past → CommitsStand head.osts lost past → (n : ℕ) → WasMade past n → is_lost head.osts (only 0 past) n ≡ false → n ≤ (committed_at 0 past).0 → lost 0 n ≡ false
+committed_stands : (head : Head) (lost : ℕ → ℕ → Bool) (past : List Line) → Grown head past → CommitsStand head.osts lost past → (n : ℕ) → WasMade 0 past n → is_lost head.osts (only 0 past) n ≡ false → n ≤ (committed_at 0 past).0 → lost 0 n ≡ false
 committed_stands head lost [] g c n made stands le = absurd made
-committed_stands head lost (l ∷ past) g c n made stands le = by l.at.node l.entry g.0 c made (stood_before head.osts l past n stands) stands le (committed_stands head lost past g.1)
+committed_stands head lost (l ∷ past) g c n made stands le = by l.at.node l.entry g.0 c made (stood_before head.osts 0 l past n stands) stands le (committed_stands head lost past g.1)
   where
     txn : ℕ → TxnOf
     txn m = record { 0 = m }
@@ -191,12 +208,12 @@ committed_stands head lost (l ∷ past) g c n made stands le = by l.at.node l.en
     above : (t : ℕ) (d : Deed) → t ≡ 0 → Allowed head past (turn l.at.stamp (Target t)) (Made d) → d.reply.txn.0 ≡ n → n ≤ (committed_at 0 past).0 → ⊥
     above t d z k is le =
         let top = ((holds head past g.1).at 0).history.top in
-        let number = ap (λ (x : Deed). x.reply.txn.0) (k.of 0 (about_it t z)).is in
+        let number = subst (λ (v : ℕ). d.reply.txn.0 ≡ (next_number (server_of head.osts (only v past))).0) z (ap (λ (m : TxnOf). m.0) (txn_for head past l.at.stamp t d k).number) in
         let same = ap (λ (m : TxnOf). m.0) (committed_is head.osts 0 past) in
         absurd (omega (arith, top, number, is, le, same))
 
-    by : (node : Node) (e : Entry) → Allowed head past (turn l.at.stamp node) e → CommitsStand head.osts lost (line (turn l.at.stamp node) e ∷ past) → WasMade (line (turn l.at.stamp node) e ∷ past) n → is_lost head.osts (only 0 past) n ≡ false → is_lost head.osts (only 0 (line (turn l.at.stamp node) e ∷ past)) n ≡ false
-        → n ≤ (committed_at 0 (line (turn l.at.stamp node) e ∷ past)).0 → (CommitsStand head.osts lost past → (n : ℕ) → WasMade past n → is_lost head.osts (only 0 past) n ≡ false → n ≤ (committed_at 0 past).0 → lost 0 n ≡ false) → lost 0 n ≡ false
+    by : (node : Node) (e : Entry) → Allowed head past (turn l.at.stamp node) e → CommitsStand head.osts lost (line (turn l.at.stamp node) e ∷ past) → WasMade 0 (line (turn l.at.stamp node) e ∷ past) n → is_lost head.osts (only 0 past) n ≡ false → is_lost head.osts (only 0 (line (turn l.at.stamp node) e ∷ past)) n ≡ false
+        → n ≤ (committed_at 0 (line (turn l.at.stamp node) e ∷ past)).0 → (CommitsStand head.osts lost past → (n : ℕ) → WasMade 0 past n → is_lost head.osts (only 0 past) n ≡ false → n ≤ (committed_at 0 past).0 → lost 0 n ≡ false) → lost 0 n ≡ false
     by (Client b) (Commit to batch) k c m s t le ih = absurd k.ok
     by (Target zero) (Commit to batch) k c m s t le ih = c.0 n m t le
     by (Target (suc u)) (Commit to batch) k c m s t le ih = ih c.1 n m s (subst (λ (b : Bool). n ≤ (if b then txn to else committed_at 0 past).0) (not_zero u) le)
@@ -204,64 +221,67 @@ committed_stands head lost (l ∷ past) g c n made stands le = by l.at.node l.en
     by (Target zero) (Close o) k c m s t le ih = c.0 n m t le
     by (Target (suc u)) (Close o) k c m s t le ih = ih c.1 n m s (subst (λ (b : Bool). n ≤ (if b then txn o.disk.committed else committed_at 0 past).0) (not_zero u) le)
     by (Client b) (Made d) k c m s t le ih = absurd k.ok
-    by (Target u) (Made d) k c (inl is) s t le ih = absurd (above u d k.ok k is le)
+    by (Target u) (Made d) k c (inl is) s t le ih = absurd (above u d (target_is u 0 is.0) k is.1 le)
     by (Target u) (Made d) k c (inr m) s t le ih = ih c n m s le
     by _ _ k c m s t le ih = ih c n m s le
 
--- a transaction that acted is one of the past
-pub was_made : (head : Head) (past : List Line) (d : Deed) → Grown head past → Acted past d → IsMade d → WasMade past d.reply.txn.0
-was_made head [] d g a made = absurd a
-was_made head (l ∷ past) d g a made = by l.at.node l.entry g.0 a (λ b. was_made head past d g.1 b made)
-  where
-    by : (node : Node) (e : Entry) → Allowed head past (turn l.at.stamp node) e → Acted (line (turn l.at.stamp node) e ∷ past) d → (Acted past d → WasMade past d.reply.txn.0) → WasMade (line (turn l.at.stamp node) e ∷ past) d.reply.txn.0
-    by node (Act e) k (inl same) ih = absurd (let zero : d.reply.txn.0 ≡ 0 = ap (λ (x : Deed). x.reply.txn.0) (sym same) ∙ act_zero head past l.at.stamp node e k in omega (arith, zero, made))
-    by node (Act e) k (inr b) ih = ih b
-    by node (Made e) k (inl same) ih = inl (ap (λ (x : Deed). x.reply.txn.0) same)
-    by node (Made e) k (inr b) ih = inr (ih b)
-    by node (Grant lock asked) k (inl q) ih = ih (grant_made head past l.at.stamp node lock asked d k q made)
-    by node (Grant lock asked) k (inr b) ih = ih b
-    by node e k b ih = ih b
-
 module _ (head : Head) (lost : ℕ → ℕ → Bool) where
-  -- a transaction that isn't lost saw nothing lost
-  seen_of : (past : List Line) (d : Deed) → Grown head past → SeenStand lost past → Acted past d → IsMade d → lost 0 d.reply.txn.0 ≡ false → AllStand lost d.reply.seen
+  -- a transaction of the metadata target that isn't lost saw nothing lost
+  seen_of : (past : List Line) (d : Deed) → Grown head past → SeenStand lost past → Acted (only 0 past) d → IsMade d → lost 0 d.reply.txn.0 ≡ false → AllStand (lost 0) d.reply.seen
   seen_of [] d g s a made stays = absurd a
   seen_of (l ∷ past) d g s a made stays = by l.at.node l.entry g.0 s a (λ t b. seen_of past d g.1 t b made stays)
     where
-      by : (node : Node) (e : Entry) → Allowed head past (turn l.at.stamp node) e → SeenStand lost (line (turn l.at.stamp node) e ∷ past) → Acted (line (turn l.at.stamp node) e ∷ past) d → (SeenStand lost past → Acted past d → AllStand lost d.reply.seen) → AllStand lost d.reply.seen
-      by node (Act e) k s (inl same) ih = absurd (let zero : d.reply.txn.0 ≡ 0 = ap (λ (x : Deed). x.reply.txn.0) (sym same) ∙ act_zero head past l.at.stamp node e k in omega (arith, zero, made))
-      by node (Act e) k s (inr b) ih = ih s b
-      by node (Made e) k s (inl same) ih = subst (λ (x : Deed). AllStand lost x.reply.seen) same (s.0 (ap (λ (x : Deed). lost 0 x.reply.txn.0) same ∙ stays))
-      by node (Made e) k s (inr b) ih = ih s.1 b
-      by node (Grant lock asked) k s (inl q) ih = ih s (grant_made head past l.at.stamp node lock asked d k q made)
-      by node (Grant lock asked) k s (inr b) ih = ih s b
-      by node e k s b ih = ih s b
+      P : List Line
+      P = only 0 past
+
+      Goal : Type 0
+      Goal = AllStand (lost 0) d.reply.seen
+
+      -- a line that made it not
+      other : (node : Node) (e : Entry) → Allowed head past (turn l.at.stamp node) e → ((x : Deed) → e ≡ Made x → ⊥) → Acted (if concerns 0 node e then line (turn l.at.stamp node) e ∷ P else P) d → Acted P d
+      other (Client c) e k differs a = of (concerns 0 (Client c) e) (k.of 0) a
+        where
+          of : (b : Bool) → (b ≡ true → EntryOf head P (turn l.at.stamp (Client c)) (Client c) e) → Acted (if b then line (turn l.at.stamp (Client c)) e ∷ P else P) d → Acted P d
+          of true ok i = client_acted head P l.at.stamp c e d (ok refl) i
+          of false ok i = i
+      other (Target u) e k differs a = of (nat_eq 0 u) (k.of 0) a
+        where
+          of : (b : Bool) → (b ≡ true → EntryOf head P (turn l.at.stamp (Target u)) (Target u) e) → Acted (if b then line (turn l.at.stamp (Target u)) e ∷ P else P) d → Acted P d
+          of true ok i = ⊎_elim (λ (q : e ≡ Made d). absurd (differs d q)) (λ (b : Acted P d). b) (made_new head P l.at.stamp u e d (ok refl) i made)
+          of false ok i = i
+
+      by : (node : Node) (e : Entry) → Allowed head past (turn l.at.stamp node) e → SeenStand lost (line (turn l.at.stamp node) e ∷ past) → Acted (only 0 (line (turn l.at.stamp node) e ∷ past)) d → (SeenStand lost past → Acted P d → Goal) → Goal
+      by (Client c) (Made e) k s a ih = absurd k.ok
+      by (Target zero) (Made e) k s (inl same) ih = subst (λ (x : Deed). AllStand (lost 0) x.reply.seen) same (s.0 (ap (λ (x : Deed). lost 0 x.reply.txn.0) same ∙ stays))
+      by (Target zero) (Made e) k s (inr b) ih = ih s.1 b
+      by (Target (suc u)) (Made e) k s a ih = ih s.1 (subst (λ (b : Bool). Acted (if b then line (turn l.at.stamp (Target (suc u))) (Made e) ∷ P else P) d) (not_zero u) a)
+      by node e k s a ih = ih s (other node e k (λ x q. cc) a)
 
   committed_in : (past : List Line) → Grown head past → CommitsStand head.osts lost past → (d : Deed) → Acted (only 0 past) d → IsMade d → Stands head.osts (only 0 past) d → d.reply.txn.0 ≤ (server_of head.osts (only 0 past)).committed.0 → lost 0 d.reply.txn.0 ≡ false
-  committed_in past g c d a made stands le = committed_stands head lost past g c d.reply.txn.0 (was_made head past d g (acted_whole 0 past d a) made) stands (subst (λ (m : TxnOf). d.reply.txn.0 ≤ m.0) (sym (committed_is head.osts 0 past)) le)
+  committed_in past g c d a made stands le = committed_stands head lost past g c d.reply.txn.0 (listed head 0 past d g a made).made stands (subst (λ (m : TxnOf). d.reply.txn.0 ≤ m.0) (sym (committed_is head.osts 0 past)) le)
 
   -- each item that stays saw only what stays
   items_saw : (past : List Line) → Grown head past → CommitsStand head.osts lost past → SeenStand lost past → AllSawKept head.osts (whole head.osts) (keep lost) (items head past)
   items_saw past g c s =
       all_saw head.osts (only 0 past) lost (items head past) (history head past g).items (committed_in past g c)
-      (λ d a made stays n i. one_stands lost d.reply.seen n (seen_of past d g s (acted_whole 0 past d a) made stays) i)
+      (λ d a made stays n i. one_stands (lost 0) d.reply.seen n (seen_of past d g s a made stays) i)
 
   -- what saw only what stands
-  saw_kept : (past : List Line) (d : Deed) → Grown head past → CommitsStand head.osts lost past → d.reply.seen ≡ seen_in (touches head.osts (tree_at head.osts 0 past) (operation d)) (log_at 0 past) → AllStand lost d.reply.seen → SawKept head.osts (whole head.osts) (keep lost) (items head past) (operation d)
+  saw_kept : (past : List Line) (d : Deed) → Grown head past → CommitsStand head.osts lost past → d.reply.seen ≡ seen_in (touches head.osts (tree_at head.osts 0 past) (operation d)) (log_at 0 past) → AllStand (lost 0) d.reply.seen → SawKept head.osts (whole head.osts) (keep lost) (items head past) (operation d)
   saw_kept past d g c is s =
       subst (λ (ps : List Part). Every (λ n. keep lost n ≡ true) (seen head.osts (whole head.osts) (items head past) ps)) (sym (tree_alike head past (operation d) g).touches)
-      (seen_stays head.osts (only 0 past) lost touched (items head past) (history head past g).items (λ e a made stands m. by e a made stands m ((history head past g).logged e a made stands)))
+      (seen_stays head.osts (only 0 past) lost (names head past g) touched (items head past) (history head past g).items (λ e a made stands m. by e a made stands m ((history head past g).logged e a made stands)))
     where
       touched : List Part
       touched = touches head.osts (tree_at head.osts 0 past) (operation d)
 
       by : (e : Deed) → Acted (only 0 past) e → IsMade e → Stands head.osts (only 0 past) e → meet e.writes touched ≡ true → In e (server_of head.osts (only 0 past)).log ⊎ (e.reply.txn.0 ≤ (server_of head.osts (only 0 past)).committed.0) → lost 0 e.reply.txn.0 ≡ false
-      by e a made stands m (inl i) = one_stands lost (seen_in touched (log_at 0 past)) e.reply.txn.0 (subst (AllStand lost) is s) (in_seen touched (log_at 0 past) e (subst (λ (ds : List Deed). In e ds) (sym (log_is head.osts 0 past)) i) m)
+      by e a made stands m (inl i) = one_stands (lost 0) (seen_in touched (log_at 0 past)) e.reply.txn.0 (subst (AllStand (lost 0)) is s) (in_seen touched (log_at 0 past) e (subst (λ (ds : List Deed). In e ds) (sym (log_is head.osts 0 past)) i) m)
       by e a made stands m (inr le) = committed_in past g c e a made stands le
 
   -- where each transaction that wrote what is touched stands
-  seen_stands : (touched : List Part) (past : List Line) → Grown head past → ((e : Deed) → Acted past e → 0 < e.reply.txn.0 → Stands head.osts (only 0 past) e → meet e.writes touched ≡ true → lost 0 e.reply.txn.0 ≡ false) → Every (λ n. keep lost n ≡ true) (seen head.osts (whole head.osts) (items head past) touched)
-  seen_stands touched past g h = seen_stays head.osts (only 0 past) lost touched (items head past) (history head past g).items (λ e a made stands m. h e (acted_whole 0 past e a) made stands m)
+  seen_stands : (touched : List Part) (past : List Line) → Grown head past → ((e : Deed) → Acted (only 0 past) e → IsMade e → Stands head.osts (only 0 past) e → meet e.writes touched ≡ true → lost 0 e.reply.txn.0 ≡ false) → Every (λ n. keep lost n ≡ true) (seen head.osts (whole head.osts) (items head past) touched)
+  seen_stands touched past g h = seen_stays head.osts (only 0 past) lost (names head past g) touched (items head past) (history head past g).items h
 
 -- ---- lines that are no items
 
@@ -289,10 +309,6 @@ items_other head past stamp t e =
     items_line head (line (turn stamp (Target (suc t))) e) past
     ∙ ap (λ (b : Bool). if b then items_after (server_of head.osts (only 0 past)).committed.0 (items head past) e else items head past) (not_zero t)
 
--- where a close has nothing to show, it has no eviction to show
-none_left : (head : Head) (past : List Line) (who : Who) → closing_of head.clients past ≡ [] → LeftEvict head past who → ⊥
-none_left head past who quiet e = subst (λ (es : List Entry). In (Evict who e.0) es) quiet e.1
-
 -- ---- the law's machine
 
 module _ (head : Head) (out : Who → Bool) (lost : ℕ → ℕ → Bool) where
@@ -313,7 +329,7 @@ module _ (head : Head) (out : Who → Bool) (lost : ℕ → ℕ → Bool) where
       ((after_item head.osts (machine past) (if t then None else names_act d.reply.who d.reply.txn o)).last ≤ boot_at 0 past * 4294967296 + (count_at 0 past + 1))
       × ((p : Part) → Same (after_item head.osts (machine past) (if t then None else names_act d.reply.who d.reply.txn o)).tree (whole head.osts (if not t then Acts (operation d) ∷ standing past else standing past)) p)
 
-  follows_made : (past : List Line) (at : At) (d : Deed) → Grown head past → TxnIs head.osts (server_at head.osts 0 past) at d → AskedAt past d → Follows past → Follows (line (turn at.stamp (Target 0)) (Made d) ∷ past)
+  follows_made : (past : List Line) (at : At) (d : Deed) → Grown head past → TxnIs head.osts (server_at head.osts 0 past) at d → AskedAt 0 past d → Follows past → Follows (line (turn at.stamp (Target 0)) (Made d) ∷ past)
   follows_made past at d g is asks h = by (lost 0 d.reply.txn.0)
     where
       number : d.reply.txn.0 ≡ numbers_at past + 1
@@ -374,14 +390,14 @@ module _ (head : Head) (out : Who → Bool) (lost : ℕ → ℕ → Bool) where
       lost_then false e = absurd (cc)
 
       loses_it : (d : Deed) → Acted (only 0 past) d → IsMade d → Stands head.osts (only 0 past) d → kept d.reply.txn.0 ≡ false → lost 0 d.reply.txn.0 ≡ true
-      loses_it d a made stands e = f.stays d.reply.txn.0 (was_made head past d g (acted_whole 0 past d a) made) (or_second (is_lost head.osts (only 0 past) d.reply.txn.0) (loses committed o d.reply.txn.0) (lost_then (loses committed o d.reply.txn.0) e))
+      loses_it d a made stands e = f.stays 0 d.reply.txn.0 (listed head 0 past d g a made).made (or_second (is_lost head.osts (only 0 past) d.reply.txn.0) (loses committed o d.reply.txn.0) (lost_then (loses committed o d.reply.txn.0) e))
 
       picked : pick (keep lost) (forgetting (lives_in o.gone) (pick kept (items head past))) ≡ forgetting (lives_in o.gone) (standing past)
       picked = pick_forgetting (keep lost) (lives_in o.gone) (pick kept (items head past)) ∙ ap (forgetting (lives_in o.gone)) (pick_again head.osts (only 0 past) lost kept (items head past) (history head past g).items loses_it)
 
-  follows : (past : List Line) → Grown head past → AllAsked past → AllTold past → Fits head.osts out lost past → Follows past
+  follows : (past : List Line) → Grown head past → AllAsked past → BareGrown head past → Fits head.osts out lost past → Follows past
   follows [] g a t f = (omega arith, λ p. same_self empty p)
-  follows (l ∷ past) g a t f = by l.at.node l.entry g.0 a t f (follows past g.1 (asked_before l past a) (told_earlier l past t) (fits_before head.osts out lost l past f))
+  follows (l ∷ past) g a t f = by l.at.node l.entry g.0 a t f (follows past g.1 (asked_before l past a) t.1 (fits_before head.osts out lost l past f))
     where
       -- the items are as they were
       still : (node : Node) (e : Entry) → Allowed head past (turn l.at.stamp node) e → items head (line (turn l.at.stamp node) e ∷ past) ≡ items head past → Follows past → (numbers_at past ≤ numbers_at (line (turn l.at.stamp node) e ∷ past))
@@ -393,11 +409,11 @@ module _ (head : Head) (out : Who → Bool) (lost : ℕ → ℕ → Bool) where
       up : (node : Node) (e : Entry) → Allowed head past (turn l.at.stamp node) e → numbers_at past ≤ numbers_at (line (turn l.at.stamp node) e ∷ past)
       up node e k = numbers_up head (line (turn l.at.stamp node) e) past g.1 k
 
-      by : (node : Node) (e : Entry) → Allowed head past (turn l.at.stamp node) e → AllAsked (line (turn l.at.stamp node) e ∷ past) → AllTold (line (turn l.at.stamp node) e ∷ past) → Fits head.osts out lost (line (turn l.at.stamp node) e ∷ past) → Follows past → Follows (line (turn l.at.stamp node) e ∷ past)
+      by : (node : Node) (e : Entry) → Allowed head past (turn l.at.stamp node) e → AllAsked (line (turn l.at.stamp node) e ∷ past) → BareGrown head (line (turn l.at.stamp node) e ∷ past) → Fits head.osts out lost (line (turn l.at.stamp node) e ∷ past) → Follows past → Follows (line (turn l.at.stamp node) e ∷ past)
       by (Client c) (Made d) k a t f h = absurd k.ok
-      by (Target u) (Made d) k a t f h =
-          subst (λ (v : ℕ). Follows (line (turn l.at.stamp (Target v)) (Made d) ∷ past)) (sym k.ok) (follows_made past (turn l.at.stamp (Target u)) d g.1 (txn_is head past l.at.stamp u d k) a.0 h)
-      by (Client c) (Told slot named given work) k a t f h = follows_told past l.at.stamp c slot named given work g.1 t.0 h
+      by (Target zero) (Made d) k a t f h = follows_made past (turn l.at.stamp (Target 0)) d g.1 (txn_is head past l.at.stamp d k) (a.0 0 refl) h
+      by (Target (suc u)) (Made d) k a t f h = let first = t.0.ok in absurd (omega (arith, first))
+      by (Client c) (Told slot named given work) k a t f h = follows_told past l.at.stamp c slot named given work g.1 (all_told head (line (turn l.at.stamp (Client c)) (Told slot named given work) ∷ past) t).0 h
       by (Target u) (Told slot named given work) k a t f h = absurd k.ok
       by (Client c) (Evict who cause) k a t f h = absurd k.ok
       by (Target zero) (Evict who cause) k a t f h = (h.0, λ p. same_trans (machine past).tree (whole head.osts (standing past)) (forget (whole head.osts (standing past)) who) p (h.1 p) (same_forgot (whole head.osts (standing past)) who p))
@@ -408,7 +424,7 @@ module _ (head : Head) (out : Who → Bool) (lost : ℕ → ℕ → Bool) where
       by node e k a t f h = still node e k (items_same head past l.at.stamp node e tt) h (up node e k)
 
   -- what saw only what stands comes out of the machine as it came out of the target
-  alike_op : (past : List Line) (o : Operation) → Grown head past → AllAsked past → AllTold past → Fits head.osts out lost past
+  alike_op : (past : List Line) (o : Operation) → Grown head past → AllAsked past → BareGrown head past → Fits head.osts out lost past
       → SawKept head.osts (whole head.osts) (keep lost) (items head past) o → Alike head.osts (tree_at head.osts 0 past) (machine past).tree o
   alike_op past o g a t f saw =
       let root = ap not f.root in
@@ -419,8 +435,8 @@ module _ (head : Head) (out : Who → Bool) (lost : ℕ → ℕ → Bool) where
       alike_trans head.osts (tree_at head.osts 0 past) (whole head.osts (items head past)) (machine past).tree o (alike_back head.osts (whole head.osts (items head past)) (tree_at head.osts 0 past) o (tree_alike head past o g))
       (alike_trans head.osts (whole head.osts (items head past)) (whole head.osts (standing past)) (machine past).tree o stays (alike_back head.osts (machine past).tree (whole head.osts (standing past)) o machine_too))
 
-  alike : (past : List Line) (d : Deed) → Grown head past → AllAsked past → AllTold past → Fits head.osts out lost past
-      → d.reply.seen ≡ seen_in (touches head.osts (tree_at head.osts 0 past) (operation d)) (log_at 0 past) → AllStand lost d.reply.seen → Alike head.osts (tree_at head.osts 0 past) (machine past).tree (operation d)
+  alike : (past : List Line) (d : Deed) → Grown head past → AllAsked past → BareGrown head past → Fits head.osts out lost past
+      → d.reply.seen ≡ seen_in (touches head.osts (tree_at head.osts 0 past) (operation d)) (log_at 0 past) → AllStand (lost 0) d.reply.seen → Alike head.osts (tree_at head.osts 0 past) (machine past).tree (operation d)
   alike past d g a t f is s = alike_op past (operation d) g a t f (saw_kept head lost past d g f.committed is s)
 
   answered : (past : List Line) (d : Deed) → Alike head.osts (tree_at head.osts 0 past) (machine past).tree (operation d) → IsPlain (answer head.osts (tree_at head.osts 0 past) (operation d)) → (changes head.osts (tree_at head.osts 0 past) (operation d) ≡ true → (machine past).last < d.reply.txn.0)
@@ -435,14 +451,14 @@ module _ (head : Head) (out : Who → Bool) (lost : ℕ → ℕ → Bool) where
   answers past act = answer_to head.osts (machine past) act
 
   -- to an act, and to a transaction
-  act_answers : (past : List Line) (at : At) (d : Deed) → Grown head past → AllAsked past → AllTold past → Fits head.osts out lost past → ActIs head.osts (server_at head.osts 0 past) at d → AskedAt past d → IsPlain d.reply.answer → AllStand lost d.reply.seen
+  act_answers : (past : List Line) (at : At) (d : Deed) → Grown head past → AllAsked past → BareGrown head past → Fits head.osts out lost past → ActIs head.osts (server_at head.osts 0 past) at d → AskedAt 0 past d → IsPlain d.reply.answer → AllStand (lost 0) d.reply.seen
       → answers past (names_act d.reply.who none (asked (printed past) 0 d.reply.who d.reply.xid.0)) ≡ Some (told_so d.reply.answer)
   act_answers past at d g a t f is asks plain s =
       subst (λ o. answers past (names_act d.reply.who none o) ≡ Some (told_so d.reply.answer)) (sym asks)
       (subst (λ (n : TxnOf). answers past (names_act d.reply.who n (Some d.op)) ≡ Some (told_so d.reply.answer)) is.txn
       (ap (λ (v : Answer). Some v) (answered past d (alike past d g a t f is.saw s) (subst IsPlain is.answered plain) (λ c. absurd (let still = is.still in cc)) ∙ ap told_so (sym is.answered))))
 
-  txn_answers : (past : List Line) (at : At) (d : Deed) → Grown head past → AllAsked past → AllTold past → Fits head.osts out lost past → TxnIs head.osts (server_at head.osts 0 past) at d → IsPlain d.reply.answer → AllStand lost d.reply.seen
+  txn_answers : (past : List Line) (at : At) (d : Deed) → Grown head past → AllAsked past → BareGrown head past → Fits head.osts out lost past → TxnIs head.osts (server_at head.osts 0 past) at d → IsPlain d.reply.answer → AllStand (lost 0) d.reply.seen
       → names_answer head.osts (machine past) (operation d) ≡ told_so d.reply.answer
   txn_answers past at d g a t f is plain s =
       let n = number_is head past at d g is in
@@ -459,14 +475,14 @@ module _ (head : Head) (out : Who → Bool) (lost : ℕ → ℕ → Bool) where
   before_is false now old given n q = q
 
   -- what was done was answered where it stands
-  answered_there : (past : List Line) (d : Deed) → d.reply.at.node ≡ Target 0 → Grown head past → AllAsked past → AllTold past → Fits head.osts out lost past → Acted past d → IsPlain d.reply.answer → ReplyStands lost d.reply
+  answered_there : (past : List Line) (d : Deed) → d.reply.at.node ≡ Target 0 → Grown head past → AllAsked past → BareGrown head past → Fits head.osts out lost past → Acted past d → IsPlain d.reply.answer → ReplyStands (lost 0) d.reply
       → answer_there out lost head.osts (printed past) d.reply.at d.reply.who d.reply.xid.0 ≡ Some (told_so d.reply.answer)
   answered_there [] d first g a t f acted plain s = absurd acted
   answered_there (l ∷ past) d first g a t f acted plain s =
-      by l.entry g.0 a acted (λ b. answered_there past d first g.1 (asked_before l past a) (told_earlier l past t) (fits_before head.osts out lost l past f) b plain s)
+      by l.entry g.0 a acted (λ b. answered_there past d first g.1 (asked_before l past a) t.1 (fits_before head.osts out lost l past f) b plain s)
     where
-      before : AllTold past
-      before = told_earlier l past t
+      before : BareGrown head past
+      before = t.1
 
       fits : Fits head.osts out lost past
       fits = fits_before head.osts out lost l past f
@@ -489,72 +505,55 @@ module _ (head : Head) (out : Who → Bool) (lost : ℕ → ℕ → Bool) where
       by (Act e) ok a (inl same) h =
           let does = act_now head past l.at.stamp l.at.node e ok g.1 in
           let here = node_here e does.turn same in
-          let stands = subst (λ (v : Deed). AllStand lost v.reply.seen) (sym same) s.1 in
+          let stands = subst (λ (v : Deed). AllStand (lost 0) v.reply.seen) (sym same) s.1 in
           let at_once = subst (λ (v : Deed). IsPlain v.reply.answer) (sym same) plain in
           subst (λ (v : Deed). answer_there out lost head.osts (printed (line l.at (Act e) ∷ past)) v.reply.at v.reply.who v.reply.xid.0 ≡ Some (told_so v.reply.answer)) same
           (here_is _ _ _ (told_so e.reply.answer) (own_line l.at e.reply.at e.reply.who e.reply.xid.0 (sym does.turn) here)
-          (act_answers past l.at e g.1 a.1 before fits (act_here head past l.at.stamp l.at.node e here ok) (a.0 here) at_once stands))
+          (act_answers past l.at e g.1 a.1 before fits (act_here head past l.at.stamp l.at.node e here ok) (a.0 0 here) at_once stands))
       by (Act e) ok a (inr i) h =
           before_is _ _ _ (told_so d.reply.answer) (same_request e (act_now head past l.at.stamp l.at.node e ok g.1).now i) (h i)
       by (Made e) ok a (inl same) h =
           let does = txn_now head past l.at.stamp l.at.node e ok g.1 in
-          let stands = subst (λ (v : Deed). ReplyStands lost v.reply) (sym same) s in
+          let stands = subst (λ (v : Deed). ReplyStands (lost 0) v.reply) (sym same) s in
           let at_once = subst (λ (v : Deed). IsPlain v.reply.answer) (sym same) plain in
-          let own = own_line l.at e.reply.at e.reply.who e.reply.xid.0 (sym does.turn) (node_here e does.turn same) in
+          let here = node_here e does.turn same in
+          let own = own_line l.at e.reply.at e.reply.who e.reply.xid.0 (sym does.turn) here in
           subst (λ (v : Deed). answer_there out lost head.osts (printed (line l.at (Made e) ∷ past)) v.reply.at v.reply.who v.reply.xid.0 ≡ Some (told_so v.reply.answer)) same
           (here_is _ _ _ (told_so e.reply.answer) (both own (settled (lost 0 e.reply.txn.0) stands.0))
-          (subst (λ o. answers past (names_act e.reply.who e.reply.txn o) ≡ Some (told_so e.reply.answer)) (sym a.0)
-          (ap (λ (v : Answer). Some v) (txn_answers past l.at e g.1 a.1 before fits (txn_here head past l.at.stamp l.at.node e ok) at_once stands.1))))
+          (subst (λ o. answers past (names_act e.reply.who e.reply.txn o) ≡ Some (told_so e.reply.answer)) (sym (a.0 0 here))
+          (ap (λ (v : Answer). Some v) (txn_answers past l.at e g.1 a.1 before fits (txn_here head past l.at.stamp l.at.node e here ok) at_once stands.1))))
       by (Made e) ok a (inr i) h =
           before_is _ _ _ (told_so d.reply.answer)
           (λ p. same_request e (txn_now head past l.at.stamp l.at.node e ok g.1).now i (and_parts (acts_as d.reply.at d.reply.who d.reply.xid.0 l.at e.reply.who e.reply.xid.0) (not (lost 0 e.reply.txn.0)) p).0)
           (h i)
       by (Grant lock asked') ok a (inl q) h = h (granted_first head past l.at.stamp l.at.node lock asked' d ok q g.1 first)
       by (Grant lock asked') ok a (inr i) h = h i
+      by (Wait lock e) ok a (inl same) h = absurd (wait_high head past l.at.stamp l.at.node lock e ok g.1 (ap (λ (v : Deed). v.reply.at.node) same ∙ first))
+      by (Wait lock e) ok a (inr i) h = h i
+      by (Responds e) ok a (inl same) h = absurd (responds_high head past l.at.stamp l.at.node e ok g.1 (ap (λ (v : Deed). v.reply.at.node) same ∙ first))
+      by (Responds e) ok a (inr i) h = h i
       by _ ok a b h = h b
 
   -- ---- the law, line by line
 
   -- what is told is what the machine answers where it acted
-  asked_law : (past : List Line) (stamp : Stamp) (c slot : ℕ) (named : At) (given : Answer) → Grown head past → AllAsked past → AllTold past → Fits head.osts out lost past
+  asked_law : (past : List Line) (stamp : Stamp) (c slot : ℕ) (named : At) (given : Answer) → Grown head past → AllAsked past → BareGrown head past → Fits head.osts out lost past
       → AnswersAt past (turn stamp (Client c)) c named given → out (who_is c (printed past)) ≡ false → right_answer out lost head.osts (printed past) (turn stamp (Client c)) c slot named (same_turn named (turn stamp (Client c))) ≡ Some given
   asked_law past stamp c slot named given g a t f tells out_not =
       let d = tells.deed in
       let life = present_is head c past g in
       let whose : tells.reply.who ≡ who_is c (printed past) = ap (λ (v : ReplyTo). v.who) (sym tells.is) ∙ tells.who ∙ sym life in
-      let stands = same_stands lost d.reply tells.reply tells.is (heard_stands out lost past c tells.flight tells.reply f.heard (heard_by_whole 0 past c tells.flight tells.reply tells.hears) (ap out whose ∙ out_not)) in
-      let found = answered_there past d (story_at head past 0 d g tells.acted) g a t f (acted_whole 0 past d tells.acted) tells.plain stands in
+      let stands = same_stands (lost 0) d.reply tells.reply tells.is (heard_stands out lost 0 past c tells.flight tells.reply f.heard tells.hears (ap out whose ∙ out_not)) in
+      let found = answered_there past d (first_at head past d g tells.acted) g a t f (acted_whole 0 past d tells.acted) tells.plain stands in
       subst (λ b. right_answer out lost head.osts (printed past) (turn stamp (Client c)) c slot named b ≡ Some given) (sym tells.other)
       (subst (λ (o : Option ℕ). heard_answer out lost head.osts (printed past) named (who_is c (printed past)) o ≡ Some given) (sym tells.heard)
       (subst (λ (v : Answer). answer_there out lost head.osts (printed past) named (who_is c (printed past)) d.reply.xid.0 ≡ Some v) tells.answer
       (subst (λ (v : At). answer_there out lost head.osts (printed past) v (who_is c (printed past)) d.reply.xid.0 ≡ Some (told_so d.reply.answer)) tells.turn
       (subst (λ (v : Who). answer_there out lost head.osts (printed past) d.reply.at v d.reply.xid.0 ≡ Some (told_so d.reply.answer)) (tells.who ∙ sym life) found))))
 
-  -- a life that isn't out wasn't evicted
-  kept_in : (past : List Line) (who : Who) → EvictedOut out past → out who ≡ false → is_evicted 0 (printed past) who ≡ true → ⊥
-  kept_in [] who k stays e = absurd (cc)
-  kept_in (l ∷ past) who k stays e = by l.entry k e (λ k. kept_in past who k stays)
-    where
-      either : (o : Who) (a b : Bool) → out o ≡ true → ((a && same_life o who) || b) ≡ true → (b ≡ true → ⊥) → ⊥
-      either o a true gone q h = h refl
-      either o true false gone q h = let same = life_is o who (only_left (same_life o who) q) in let goes = ap out (sym same) ∙ gone in absurd (cc)
-        where
-          only_left : (a : Bool) → (a || false) ≡ true → a ≡ true
-          only_left true e = refl
-          only_left false e = absurd (cc)
-      either o false false gone q h = absurd (cc)
-
-      by : (e : Entry) → EvictedOut out (line l.at e ∷ past) → is_evicted 0 (printed (line l.at e ∷ past)) who ≡ true → (EvictedOut out past → is_evicted 0 (printed past) who ≡ true → ⊥) → ⊥
-      by (Evict o cause) k q h = either o (is_target 0 l.at.node) (is_evicted 0 (printed past) who) k.0 q (h k.1)
-      by _ k q h = h k q
-
-  -- once a close has shown all
-  pub stays_in : (past : List Line) (who : Who) → Grown head past → EvictedOut out past → closing_of head.clients (only 0 past) ≡ [] → out who ≡ false → Evicted (only 0 past) who → ⊥
-  stays_in past who g f quiet stays gone =
-      ⊎_elim (λ (e : is_evicted 0 (printed past) who ≡ true). kept_in past who f stays e) (λ (e : LeftEvict head (only 0 past) who). none_left head (only 0 past) who quiet e) (evicted_law head 0 past g who gone)
-
+  -- a life that isn't out wasn't evicted, once a close has shown all
   present : (past : List Line) (c : ℕ) → Grown head past → Fits head.osts out lost past → closing_of head.clients (only 0 past) ≡ [] → out (who_is c (printed past)) ≡ false → Evicted (only 0 past) (life_at c past) → ⊥
-  present past c g f quiet stays gone = stays_in past (life_at c past) g f.gone quiet (ap out (sym (present_is head c past g)) ∙ stays) gone
+  present past c g f quiet stays gone = stays_in out 0 (life_at c past) (ap out (sym (present_is head c past g)) ∙ stays) head past g f.gone quiet gone
 
   -- each transaction that stands and wrote what the operation looks at is committed, or the client's life heard of it
   abbrev AllSeen : List Line → ℕ → Operation → Type 0
@@ -564,9 +563,9 @@ module _ (head : Head) (out : Who → Bool) (lost : ℕ → ℕ → Bool) where
 
   -- so all that its answer rests on stands
   known_stands : (past : List Line) (c : ℕ) (o : Operation) → Grown head past → Fits head.osts out lost past → out (who_is c (printed past)) ≡ false → AllSeen past c o
-      → (e : Deed) → Acted past e → 0 < e.reply.txn.0 → Stands head.osts (only 0 past) e → meet e.writes (touches head.osts (tree_at head.osts 0 past) o) ≡ true → lost 0 e.reply.txn.0 ≡ false
-  known_stands past c o g f stays saw e acted positive standing m =
-      let r = any_true (λ (p : Part). list_any (λ w. meets w p) e.writes) (touches head.osts (tree_at head.osts 0 past) o) m in by r.0 r.2 (saw r.0 r.1 e (made_story head past e g acted positive) positive standing)
+      → (e : Deed) → Acted (only 0 past) e → IsMade e → Stands head.osts (only 0 past) e → meet e.writes (touches head.osts (tree_at head.osts 0 past) o) ≡ true → lost 0 e.reply.txn.0 ≡ false
+  known_stands past c o g f stays saw e acted made standing m =
+      let r = any_true (λ (p : Part). list_any (λ w. meets w p) e.writes) (touches head.osts (tree_at head.osts 0 past) o) m in by r.0 r.2 (saw r.0 r.1 e acted made standing)
     where
       clash : (ws : List Part) (p : Part) → Apart ws p → list_any (λ w. meets w p) ws ≡ true → ⊥
       clash [] p h q = absurd (cc)
@@ -574,11 +573,11 @@ module _ (head : Head) (out : Who → Bool) (lost : ℕ → ℕ → Bool) where
 
       by : (p : Part) → list_any (λ w. meets w p) e.writes ≡ true → Apart e.writes p ⊎ ((e.reply.txn.0 ≤ (committed_at 0 past).0) ⊎ SawBy past c e.reply.txn.0) → lost 0 e.reply.txn.0 ≡ false
       by p q (inl apart) = absurd (clash e.writes p apart q)
-      by p q (inr (inl le)) = committed_stands head lost past g f.committed e.reply.txn.0 (was_made head past e g acted positive) standing le
-      by p q (inr (inr saw)) = one_stands lost saw.reply.seen e.reply.txn.0 (heard_stands out lost past c saw.flight saw.reply f.heard saw.heard (ap out (saw.of ∙ sym (present_is head c past g)) ∙ stays)).1 saw.seen
+      by p q (inr (inl le)) = committed_stands head lost past g f.committed e.reply.txn.0 (listed head 0 past e g acted made).made standing le
+      by p q (inr (inr saw)) = one_stands (lost 0) saw.reply.seen e.reply.txn.0 (heard_stands out lost 0 past c saw.flight saw.reply f.heard saw.heard (ap out (saw.of ∙ sym (present_is head c past g)) ∙ stays)).1 saw.seen
 
   -- and of one that reads, what the table answers is what the machine does
-  reads_law : (past : List Line) (c : ℕ) (o : Operation) (a : Answer) → Grown head past → AllAsked past → AllTold past → Fits head.osts out lost past → out (who_is c (printed past)) ≡ false
+  reads_law : (past : List Line) (c : ℕ) (o : Operation) (a : Answer) → Grown head past → AllAsked past → BareGrown head past → Fits head.osts out lost past → out (who_is c (printed past)) ≡ false
       → IsReading o.op → a ≡ answer head.osts (tree_at head.osts 0 past) o → AllSeen past c o → names_answer head.osts (machine past) o ≡ as_told (machine past) a
   reads_law past c o a g b t f stays reads is saw =
       let seen_all = seen_stands head lost (touches head.osts (tree_at head.osts 0 past) o) past g (known_stands past c o g f stays saw) in
@@ -587,7 +586,7 @@ module _ (head : Head) (out : Who → Bool) (lost : ℕ → ℕ → Bool) where
       (machine_is_table head.osts (machine past) o (λ c. absurd (let s = still in cc))).0 ∙ ap (as_told (machine past)) (sym (is ∙ same.answer))
 
   -- what is told of what is known is what the machine answers then
-  knew_law : (past : List Line) (stamp : Stamp) (c slot : ℕ) (named : At) (given : Answer) → Grown head past → AllAsked past → AllTold past → Fits head.osts out lost past → closing_of head.clients (only 0 past) ≡ []
+  knew_law : (past : List Line) (stamp : Stamp) (c slot : ℕ) (named : At) (given : Answer) → Grown head past → AllAsked past → BareGrown head past → Fits head.osts out lost past → closing_of head.clients (only 0 past) ≡ []
       → KnewAt past (turn stamp (Client c)) c slot named given → out (who_is c (printed past)) ≡ false → right_answer out lost head.osts (printed past) (turn stamp (Client c)) c slot named (same_turn named (turn stamp (Client c))) ≡ Some given
   knew_law past stamp c slot named given g a t f quiet knew out_not =
       let k = known_operation (notes_at c past) knew.running.file knew.running.call given knew.known in
@@ -602,7 +601,7 @@ module _ (head : Head) (out : Who → Bool) (lost : ℕ → ℕ → Bool) where
       ∙ reading_told k.0 given r.reads (subst (λ (v : Answer). answer_fits k.0 v ≡ true) (sym r.same) (answers_fit head.osts (tree_at head.osts 0 past) o))))
 
   -- and of a stat of a file, which has no bytes
-  stat_law : (past : List Line) (stamp : Stamp) (c slot : ℕ) (named : At) (given : Answer) → Grown head past → PinsFit past → AllAsked past → AllTold past → Fits head.osts out lost past → closing_of head.clients (only 0 past) ≡ []
+  stat_law : (past : List Line) (stamp : Stamp) (c slot : ℕ) (named : At) (given : Answer) → Grown head past → PinsFit past → AllAsked past → BareGrown head past → Fits head.osts out lost past → closing_of head.clients (only 0 past) ≡ []
       → StatAt past (turn stamp (Client c)) c slot named given → out (who_is c (printed past)) ≡ false
       → right_answer out lost head.osts (printed past) (turn stamp (Client c)) c slot named (same_turn named (turn stamp (Client c))) ≡ Some given
   stat_law past stamp c slot named given g p a t f quiet tells out_not =
@@ -613,9 +612,9 @@ module _ (head : Head) (out : Who → Bool) (lost : ℕ → ℕ → Bool) where
       subst (λ b. right_answer out lost head.osts (printed past) (turn stamp (Client c)) c slot named b ≡ Some given) (sym tells.own)
       (ap (λ (i : Option ActOf). answer_to head.osts (machine past) i) (known_act head past c slot tells.running (op.Stat s.path) g tells.call (ap (operation_of tells.running.file) s.stats))
       ∙ ap (λ (v : Answer). Some v) (reads_law past c o (told.FileStat s.fid s.mode s.links s.layout) g a t f out_not tt r.same r.saw
-      ∙ stat_none (machine past) s.fid s.mode s.links s.layout (no_bytes head out lost past g t) ∙ sym tells.answer))
+      ∙ stat_none (machine past) s.fid s.mode s.links s.layout (no_bytes head out lost past t (all_told head past t)) ∙ sym tells.answer))
 
-  told_law : (past : List Line) (stamp : Stamp) (c slot : ℕ) (named : At) (given : Answer) → Grown head past → PinsFit past → AllAsked past → AllTold past → Fits head.osts out lost past → closing_of head.clients (only 0 past) ≡ []
+  told_law : (past : List Line) (stamp : Stamp) (c slot : ℕ) (named : At) (given : Answer) → Grown head past → PinsFit past → AllAsked past → BareGrown head past → Fits head.osts out lost past → closing_of head.clients (only 0 past) ≡ []
       → TellsAt past (turn stamp (Client c)) (Client c) slot named given → ToldAt out lost head.osts (printed past) (turn stamp (Client c)) (Client c) slot named given
   told_law past stamp c slot named given g p a t f quiet tells stays counted = by tells
     where
@@ -649,7 +648,7 @@ module _ (head : Head) (out : Who → Bool) (lost : ℕ → ℕ → Bool) where
 
       read_right : (k : ReadAt past (turn stamp (Client c)) c slot named given) → right_one
       read_right k = still_right k.running k.call (subst IsStill (sym k.read.reads) tt) k.read.good k.own
-          (λ file. ap (data_answer (machine past) file) k.read.reads ∙ read_none (machine past) file k.read.handle k.read.offset k.read.count (no_bytes head out lost past g t) ∙ sym k.answer)
+          (λ file. ap (data_answer (machine past) file) k.read.reads ∙ read_none (machine past) file k.read.handle k.read.offset k.read.count (no_bytes head out lost past t (all_told head past t)) ∙ sym k.answer)
 
       -- that a life is over is no answer of the history, nor that a handle is bad
       uncounted : given ≡ told.Refused EIO → ⊥
@@ -668,8 +667,8 @@ module _ (head : Head) (out : Who → Bool) (lost : ℕ → ℕ → Bool) where
       by (inr (inr (inr (inr (inr (inr (inr stat))))))) = on (open_call c slot (printed past)) (stat_law past stamp c slot named given g p a t f quiet stat stays)
 
   -- what stands isn't refused
-  txn_law : (past : List Line) (at : At) (d : Deed) → Grown head past → AllAsked past → AllTold past → Fits head.osts out lost past → TxnIs head.osts (server_at head.osts 0 past) at d → AskedAt past d → IsPlain d.reply.answer
-      → (lost 0 d.reply.txn.0 ≡ false → AllStand lost d.reply.seen) → law.TxnAt out lost head.osts (printed past) 0 d.reply.txn d.reply.who d.reply.xid.0
+  txn_law : (past : List Line) (at : At) (d : Deed) → Grown head past → AllAsked past → BareGrown head past → Fits head.osts out lost past → TxnIs head.osts (server_at head.osts 0 past) at d → AskedAt 0 past d → IsPlain d.reply.answer
+      → (lost 0 d.reply.txn.0 ≡ false → AllStand (lost 0) d.reply.seen) → law.TxnAt out lost head.osts (printed past) 0 d.reply.txn d.reply.who d.reply.xid.0
   txn_law past at d g a t f is asks plain s stands =
       let same = txn_answers past at d g a t f is plain (s stands) in
       subst (λ o. is_accepted (answers past (names_act d.reply.who d.reply.txn o)) ≡ true) (sym asks)
@@ -681,64 +680,30 @@ module _ (head : Head) (out : Who → Bool) (lost : ℕ → ℕ → Bool) where
 
   -- what is known of a past
   abbrev Known : List Line → Type 0
-  Known past = record { fits : Fits head.osts out lost past; pins : PinsFit past; asked : AllAsked past; told : AllTold past }
+  Known past = record { bare : BareGrown head past; fits : Fits head.osts out lost past; pins : PinsFit past; asked : AllAsked past }
 
   known_before : (l : Line) (past : List Line) → Known (l ∷ past) → Known past
-  known_before l past k = record { fits = fits_before head.osts out lost l past k.fits; pins = k.pins.1; asked = asked_before l past k.asked; told = told_earlier l past k.told }
+  known_before l past k = record { bare = k.bare.1; fits = fits_before head.osts out lost l past k.fits; pins = k.pins.1; asked = asked_before l past k.asked }
 
   history_at : (past : List Line) (l : Line) (later : List PrintedLine) → Allowed head past l.at l.entry → Grown head past → Known (l ∷ past) → Keeps (HistoryOf out lost head.osts) past l later
-  history_at past l later ok g known = by l.at.node l.entry ok (λ b i. acted_plain head (l ∷ past) b (ok, g) i) known.fits.seen known.asked known.told
+  history_at past l later ok g known = by l.at.node l.entry ok (λ b i. acted_plain head (l ∷ past) b (ok, g) i) known.fits.seen known.asked known.bare
     where
       fits : Fits head.osts out lost past
       fits = fits_before head.osts out lost l past known.fits
 
-      earlier : AllTold past
-      earlier = told_earlier l past known.told
+      b : BareGrown head past
+      b = known.bare.1
 
       by : (node : Node) (e : Entry) → Allowed head past (turn l.at.stamp node) e → ((b : Deed) → Acted (line (turn l.at.stamp node) e ∷ past) b → b.reply.locks ≡ [] → IsPlain b.reply.answer) → SeenStand lost (line (turn l.at.stamp node) e ∷ past)
-          → AllAsked (line (turn l.at.stamp node) e ∷ past) → AllTold (line (turn l.at.stamp node) e ∷ past)
+          → AllAsked (line (turn l.at.stamp node) e ∷ past) → BareGrown head (line (turn l.at.stamp node) e ∷ past)
           → Keeps (HistoryOf out lost head.osts) past (line (turn l.at.stamp node) e) later
-      by (Client c) (Told slot named given work) k plain s a t = told_law past l.at.stamp c slot named given g known.pins.1 a t.1 fits (nothing_left head (only 0 past) (turn l.at.stamp (Client c)) (Told slot named given work) (k.shows 0 refl) (λ e. e)) t.0
+      by (Client c) (Told slot named given work) k plain s a t = told_law past l.at.stamp c slot named given g known.pins.1 a b fits (nothing_left head (only 0 past) (turn l.at.stamp (Client c)) (Told slot named given work) (k.shows 0 refl) (λ e. e)) (all_told head (line (turn l.at.stamp (Client c)) (Told slot named given work) ∷ past) t).0
       by (Target u) (Told slot named given work) k plain s a t = absurd k.ok
       by (Client c) (Made d) k plain s a t = absurd k.ok
-      by (Target u) (Made d) k plain s a t =
-          subst (λ (v : ℕ). law.TxnAt out lost head.osts (printed past) v d.reply.txn d.reply.who d.reply.xid.0) (sym k.ok)
-          (txn_law past (turn l.at.stamp (Target u)) d g a.1 earlier fits (txn_is head past l.at.stamp u d k) a.0 (plain d (inl refl) (ap (λ (v : Deed). v.reply.locks) (k.of 0 (about_it u k.ok)).is)) s.0)
+      by (Target zero) (Made d) k plain s a t =
+          txn_law past (turn l.at.stamp (Target 0)) d g a.1 b fits (txn_is head past l.at.stamp d k) (a.0 0 refl) (plain d (inl refl) (txn_for head past l.at.stamp 0 d k).bare) s.0
+      by (Target (suc u)) (Made d) k plain s a t = let first = t.0.ok in absurd (omega (arith, first))
       by _ _ k plain s a t = tt
 
-  pub history_law : (past : List Line) → Fits head.osts out lost past → Grown head past → PinsFit past → AllAsked past → AllTold past → Holds (HistoryOf out lost head.osts) (printed past)
-  history_law past f g p a t = holds_before head (HistoryOf out lost head.osts) Known known_before history_at past [] g (record { fits = f; pins = p; asked = a; told = t })
-
--- ---- of a whole trace
-
--- so what isn't lost at the end wasn't lost by a close, and who isn't out wasn't evicted
-pub lasting : (head : Head) (out : Who → Bool) (lost : ℕ → ℕ → Bool) (past : List Line) → Grown head past → closing_of head.clients (only 0 past) ≡ [] → Fits head.osts out lost past → Lasting head out lost past
-lasting head out lost past g quiet f = (λ d a made stays. stands d (was_made head past d g a made) stays, λ who stays gone. stays_in head out lost past who g f.gone quiet stays gone)
-  where
-    stands : (d : Deed) → WasMade past d.reply.txn.0 → lost 0 d.reply.txn.0 ≡ false → Stands head.osts (only 0 past) d
-    stands d made stays = by (is_lost head.osts (only 0 past) d.reply.txn.0) refl
-      where
-        by : (b : Bool) → is_lost head.osts (only 0 past) d.reply.txn.0 ≡ b → b ≡ false
-        by true e = absurd (let gone = f.stays d.reply.txn.0 made e in cc)
-        by false e = refl
-
--- who is gone in a whole trace was evicted in it
-pub gone_out : (head : Head) (past : List Line) → Grown head past → EvictedOut (is_gone (printed past)) past
-gone_out head past g = inside past g (λ who e. e)
-  where
-    inside : (old : List Line) → Grown head old → ((who : Who) → is_gone (printed old) who ≡ true → is_gone (printed past) who ≡ true) → EvictedOut (is_gone (printed past)) old
-    inside [] g h = tt
-    inside (l ∷ old) g h = by l.at.node l.entry g.0 h (inside old g.1)
-      where
-        here : (who : Who) (b : Bool) → ((true && same_life who who) || b) ≡ true
-        here who b = rw (life_self who) refl
-
-        more : (a b : Bool) → b ≡ true → (a || b) ≡ true
-        more true b e = refl
-        more false b e = e
-
-        by : (node : Node) (e : Entry) → Allowed head old (turn l.at.stamp node) e → ((who : Who) → is_gone (printed (line (turn l.at.stamp node) e ∷ old)) who ≡ true → is_gone (printed past) who ≡ true)
-            → (((who : Who) → is_gone (printed old) who ≡ true → is_gone (printed past) who ≡ true) → EvictedOut (is_gone (printed past)) old) → EvictedOut (is_gone (printed past)) (line (turn l.at.stamp node) e ∷ old)
-        by (Client c) (Evict who cause) k h ih = absurd k.ok
-        by (Target t) (Evict who cause) k h ih = (h who (here who (is_gone (printed old) who)), ih (λ other e. h other (more (same_life who other) (is_gone (printed old) other) e)))
-        by _ _ k h ih = ih h
+  pub history_law : (past : List Line) → Fits head.osts out lost past → BareGrown head past → PinsFit past → AllAsked past → Holds (HistoryOf out lost head.osts) (printed past)
+  history_law past f g p a = holds_before head (HistoryOf out lost head.osts) Known known_before history_at past [] (wide head past g) (record { bare = g; fits = f; pins = p; asked = a })

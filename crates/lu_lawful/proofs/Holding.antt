@@ -2,7 +2,7 @@
 -- still, unless that life was evicted.
 use Rattle.std.proofs.Common.{◌≡◌, ℕ, Bool, true, false, List, [], ◌∷◌, ◌⊎◌, inl, inr, ⊎_elim, Option, Some, refl, sym, subst, ap, ◌∙◌}
 use Rattle.std.specs.Prelude.{nat_eq, not, if◌then◌else◌}
-use Rattle.std.proofs.lemmas.Bool.{and_parts, cond_both, cond-false, eqb-true}
+use Rattle.std.proofs.lemmas.Bool.{and_parts, cond_both, cond-true, cond-false, eqb-true}
 use Rattle.lu_base.specs.declared.ids.At.{At}
 use Rattle.lu_base.specs.declared.ids.Cookie.{Cookie}
 use Rattle.lu_base.specs.declared.ids.Node.{Node}
@@ -10,7 +10,6 @@ use Rattle.lu_base.specs.declared.ids.Node.TheVariants.{Client, Target}
 use Rattle.lu_base.specs.declared.ids.Stamp.{Stamp}
 use Rattle.lu_base.specs.declared.ids.Who.{Who}
 use Rattle.lu_base.specs.declared.locks.Lock.{Lock}
-use Rattle.lu_base.specs.declared.locks.Mode.TheVariants.{PR}
 use Rattle.lu_msg.specs.declared.messages.Message.TheVariants as message
 use Rattle.lu_msg.specs.declared.messages.Reply.{Reply as ReplyTo}
 use Rattle.lu_msg.specs.declared.operations.Op.{Op}
@@ -33,15 +32,16 @@ use Rattle.lu_laws.specs.Words.Held.{Held, held, given, is_held_by, all_but, wit
 use Rattle.lu_laws.proofs.Tests.{clash, refuted}
 use Rattle.lu_guards.proofs.Guards.{In, Did, HeardNow}
 use Rattle.lu_guards.proofs.Grown.{Allowed, Grown}
-use Rattle.lu_guards.proofs.Held.{held_into, held_back, nowhere_held}
+use Rattle.lu_guards.proofs.Held.{held_into, nowhere_held}
+use Rattle.lu_guards.proofs.ClientLocks.{with_self}
 use Rattle.lu_guards.proofs.Lists.{self, in_filter, life_self}
 use Rattle.lu_guards.proofs.Parts.{life_is_of}
-use Rattle.lu_facts.proofs.Groups.{turn, Flew, Acted, Gave, Evicted, Locks}
+use Rattle.lu_facts.proofs.Groups.{turn, Flew, Acted, Gave, IsKind, Evicted, Holding, Locks}
 use Rattle.lu_facts.proofs.All.{holds}
 use Rattle.lu_facts.proofs.Lines.{only_more}
 use Rattle.lu_lawful.proofs.Printed.{present_is}
 use Rattle.lu_lawful.proofs.CloseSlots.{NoneLeft, evicted_now}
-use Rattle.lu_lawful.proofs.Given.{Showed, all_given, showed_gave}
+use Rattle.lu_lawful.proofs.Given.{owed, Showed, all_given, showed_gave}
 use Rattle.lu_lawful.proofs.Granted.{Unique, given_is}
 use Rattle.lu_lawful.proofs.HeldLists.{brought_as, Has, has_held, has_brought, has_changed, has_unmarked, has_used, has_left}
 
@@ -140,28 +140,48 @@ module _ (head : Head) where
       (λ (q : Evicted (only t past) (life_of is.client (only t past))). inr (evicted_now head t past g none h.who (subst (λ (w : Who). Evicted (only t past) w) (sym mine) q)))
       k.granted
 
-  pub gave_reads : (t : ℕ) (past : List Line) → Grown head past → (d : Deed) (l : Lock) → Gave (only t past) d l → l.ask.mode ≡ PR
-  gave_reads t past g d l i = (locks t past g).readers d l i
+  -- each is for reading on bits, or on a range whose ends are in order
+  pub gave_kind : (t : ℕ) (past : List Line) → Grown head past → (d : Deed) (l : Lock) → Gave (only t past) d l → IsKind l.ask.mode l.ask.policy
+  gave_kind t past g d l i = (locks t past g).kinds d l i
 
-  pub held_reads : (past : List Line) → Grown head past → (h : Held) → HeldIs past h → h.lock.ask.mode ≡ PR
-  held_reads past g h is = let k = has_gave past g is.client h.target h.lock is.mine in gave_reads h.target past g k.0 h.lock k.1
+  pub held_kind : (past : List Line) → Grown head past → (h : Held) → HeldIs past h → IsKind h.lock.ask.mode h.lock.ask.policy
+  held_kind past g h is = let k = has_gave past g is.client h.target h.lock is.mine in gave_kind h.target past g k.0 h.lock k.1
 
   -- a lock that came with a reply was given
   pub reply_gave : (past : List Line) (c t : ℕ) (f : Flight) (r : ReplyTo) (l : Lock) → (i : IsHeard past c t f r) → In l (brought f.op r) → Gave (only t past) i.deed l
-  reply_gave past c t f r l i j = (i.acted, subst (λ (ls : List Lock). In l ls) (ap (λ (o : Op). brought o r) i.of_op ∙ brought_as i.deed.op r i.deed.reply i.is) j)
+  reply_gave past c t f r l i j = (i.acted, inl (subst (λ (ls : List Lock). In l ls) (ap (λ (o : Op). brought o r) i.of_op ∙ brought_as i.deed.op r i.deed.reply i.is) j))
 
   -- ---- a lock is held
 
   -- the lock with that cookie that was given to the client's life
-  pub given_now : (past : List Line) (at : At) (c t : ℕ) (f : Flight) (r : ReplyTo) (l : Lock) → Grown head past → at.node ≡ Client c → HeardNow past at t f r → In l (brought f.op r)
+  pub given_now : (past : List Line) (stamp : Stamp) (c t : ℕ) (l : Lock) (marked : Bool) (size : Option ℕ) (seen : List ℕ) → Allowed head past (turn stamp (Client c)) (Hold t l marked size seen) → Grown head past
       → (given t (who_is c (printed past)) l.cookie.0 (printed past) ≡ Some l) × ((d : Deed) × Gave (only t past) d l)
-  given_now past at c t f r l g n h j =
-      let i = heard_now head past at c t f r g n h in
-      let gave = reply_gave past c t f r l i.0 j in
-      let shown : Showed t past l = ⊎_elim (λ (q : Did past i.0.deed). absurd (i.1 i.0.deed q)) (λ (q : Showed t past l). q) (all_given head past g t i.0.deed l gave) in
-      let whose : l.ask.who ≡ life_at c past = (locks t past g).whose i.0.deed l gave ∙ ap (λ (v : ReplyTo). v.who) (sym i.0.is) ∙ i.0.who in
-      let here : l.ask.who ≡ who_is c (printed past) = whose ∙ sym (present_is head c past g) in
-      (subst (λ (v : Who). given t v l.cookie.0 (printed past) ≡ Some l) here (given_is t head past l g (unique t past g) shown), (i.0.deed, gave))
+  given_now past stamp c t l marked size seen a g =
+      (subst (λ (v : Who). given t v l.cookie.0 (printed past) ≡ Some l) here (given_is t head past l g (unique t past g) shown), (k.deed, gave))
+    where
+      new : List Line
+      new = line (turn stamp (Client c)) (Hold t l marked size seen) ∷ past
+
+      P : List Line
+      P = line (turn stamp (Client c)) (Hold t l marked size seen) ∷ only t past
+
+      same : only t new ≡ P
+      same = cond-true (nat_eq t t) P (only t past) (self t)
+
+      came : In (held_as t l marked) (held_at c P)
+      came = subst (λ (hs : List HeldLock). In (held_as t l marked) hs) (sym (cond-true (nat_eq c c) (with_held (held_as t l marked) (held_at c (only t past))) (held_at c (only t past)) (self c))) (with_self (held_as t l marked) (held_at c (only t past)))
+
+      k : Holding head.osts P c (held_as t l marked)
+      k = (subst (λ (p : List Line). Locks head.osts head.clients p) same (locks t new (a, g))).held c (held_as t l marked) came
+
+      gave : Gave (only t past) k.deed l
+      gave = k.gave
+
+      shown : Showed t past l
+      shown = ⊎_elim (λ (q : Did past k.deed). absurd (owed past (turn stamp (Client c)) k.deed (Hold t l marked size seen) q a.owes)) (λ (q : Showed t past l). q) (all_given head past g t k.deed l gave)
+
+      here : l.ask.who ≡ who_is c (printed past)
+      here = (locks t past g).whose k.deed l gave ∙ k.who ∙ sym (life_is_of c t past) ∙ sym (present_is head c past g)
 
   -- ---- each line keeps it
 
@@ -179,7 +199,7 @@ module _ (head : Head) where
   holds_one past stamp d t lock marked size seen a g k h i =
       ⊎_elim
       (λ (q : record { who = W; target = t; lock = lock } ≡ h).
-      subst (λ (v : Held). HeldIs new v) q (record { client = d; who = mine_who; mine = at_own past d d t lock (with_held (held_as t lock marked)) (λ e m. has_held t t lock marked lock (held_at d past) (λ v c. refl) m) mine }))
+      subst (λ (v : Held). HeldIs new v) q (record { client = d; who = mine_who; mine = mine }))
       (λ (q : In h (all_but W t lock.cookie.0 (held (printed past)))).
       let old = k h (in_filter (λ (x : Held). not (is_held_by W t lock.cookie.0 x)) h (held (printed past)) q).0 in
       still past new h old refl
@@ -194,13 +214,18 @@ module _ (head : Head) where
       W = who_is d (printed past)
 
       now : (given t (who_is d (printed past)) lock.cookie.0 (printed past) ≡ Some lock) × ((e : Deed) × Gave (only t past) e lock)
-      now = given_now past (turn stamp (Client d)) d t a.ok.flight a.ok.reply lock g refl a.ok.heard a.ok.among
+      now = given_now past stamp d t lock marked size seen a g
 
       mine_who : W ≡ life_at d past
       mine_who = present_is head d past g
 
-      mine : Has t lock (held_at d past)
-      mine = (held_as t lock false, (held_back d t past (held_as t lock false) (a.of t (self t)).1.held).0, refl, refl)
+      mine : Has t lock (held_at d new)
+      mine = (
+        held_as t lock marked,
+        subst (λ (hs : List HeldLock). In (held_as t lock marked) hs) (sym (cond-true (nat_eq d d) (with_held (held_as t lock marked) (held_at d past)) (held_at d past) (self d))) (with_self (held_as t lock marked) (held_at d past)),
+        refl,
+        refl,
+      )
 
   drops_one : (past : List Line) (stamp : Stamp) (d t : ℕ) (lock : Lock) → Allowed head past (turn stamp (Client d)) (Drop t lock) → Grown head past → AllHeld past → AllHeld (line (turn stamp (Client d)) (Drop t lock) ∷ past)
   drops_one past stamp d t lock a g k h i =

@@ -12,6 +12,7 @@ pub mod CloseLines
 pub mod CloseSlots
 pub mod Backs
 pub mod OneWord
+pub mod NewDeeds
 pub mod Lost
 pub mod Commits
 pub mod Hearing
@@ -38,17 +39,24 @@ pub mod Notices
 pub mod ActsLaw
 pub mod Handles
 pub mod BadCalls
+pub mod Tells
 pub mod ToldLaw
+pub mod Lasting
+pub mod AllTold
 pub mod ToldItems
 pub mod HistoryLaw
 pub mod Fitting
+pub mod Grows
 pub mod Given
 pub mod Granted
+pub mod Waits
 pub mod Evictions
+pub mod ToldSeen
 pub mod RecoveryLaw
 pub mod HeldLists
 pub mod Holding
 pub mod Wanted
+pub mod GrantLaw
 pub mod LocksLaw
 pub mod SilentKnown
 pub mod SilentHeld
@@ -75,6 +83,8 @@ pub mod OrderlySaid
 pub mod OrderlyAsked
 pub mod OrderlyAgain
 pub mod OrderlyLocks
+pub mod OrderlyBlocks
+pub mod OrderlyWaits
 pub mod OrderlyWhole
 pub use Rattle.lu_facts.proofs.All
 pub use Rattle.lu_facts.proofs.Asked
@@ -89,6 +99,11 @@ pub use Rattle.lu_facts.proofs.Readings
 pub use Rattle.lu_facts.proofs.Refused
 pub use Rattle.lu_facts.proofs.Sides
 pub use Rattle.lu_facts.proofs.Unlocked
+pub use Rattle.lu_facts.proofs.BareGuards
+pub use Rattle.lu_facts.proofs.BareObjects
+pub use Rattle.lu_facts.proofs.BareCalls
+pub use Rattle.lu_facts.proofs.BareSteps
+pub use Rattle.lu_facts.proofs.Bare
 pub use Rattle.lu_facts.proofs.Lines as FactLines
 pub use Rattle.lu_guards.proofs.ClientHandles
 pub use Rattle.lu_guards.proofs.Comings
@@ -105,15 +120,13 @@ pub use Rattle.lu_guards.proofs.TargetAlike
 pub use Rattle.lu_guards.proofs.Turns as GuardTurns
 pub use Rattle.lu_guards.proofs.ClientLines
 pub use Rattle.lu_guards.proofs.ClientLocks
+pub use Rattle.lu_guards.proofs.ClientHears
 pub use Rattle.lu_guards.proofs.ClientReplies
 pub use Rattle.lu_guards.proofs.Held
 pub use Rattle.lu_guards.proofs.Only
 pub use Rattle.lu_guards.proofs.Acts as GuardActs
-pub use Rattle.lu_guards.proofs.BareStore
 pub use Rattle.lu_guards.proofs.ClientLooks
 pub use Rattle.lu_guards.proofs.LockKinds
-pub use Rattle.lu_guards.proofs.TargetReads
-pub use Rattle.lu_guards.proofs.TargetSizes
 pub use Rattle.lu_guards.proofs.TargetStory
 pub use Rattle.lu_guards.proofs.Has
 pub use Rattle.lu_guards.proofs.Given as GuardGiven

@@ -42,18 +42,25 @@ abbrev pub shown : At → Option PrintedEntry → List PrintedLine → List Prin
 shown at None later = later
 shown at (Some e) later = record { at = at; entry = e } ∷ later
 
--- the same, where of the later lines is known what the newest one owes
+-- the same, where of the later lines is known what the newest one owes, which turns on what is known of the past
 module _ (head : Head) (law : Past → PrintedLine → List PrintedLine → Type 0) (Known : List Line → Type 0) (earlier : (l : Line) (past : List Line) → Known (l ∷ past) → Known past) (Due : List Line → List PrintedLine → Type 0)
-    (before : (past : List Line) (l : Line) (later : List PrintedLine) → Grown head (l ∷ past) → Due (l ∷ past) later → Due past (shown l.at (printed_entry (count_sent past + 1) l.entry) later))
+    (before : (past : List Line) (l : Line) (later : List PrintedLine) → Grown head (l ∷ past) → Known (l ∷ past) → Due (l ∷ past) later → Due past (shown l.at (printed_entry (count_sent past + 1) l.entry) later))
     (each : (past : List Line) (l : Line) (later : List PrintedLine) → Allowed head past l.at l.entry → Grown head past → Known (l ∷ past) → Due (l ∷ past) later → Keeps law past l later) where
-  pub holds_due : (past : List Line) (later : List PrintedLine) → Grown head past → Known past → Due past later → HoldsBefore law later (printed past)
-  holds_due [] later g k d = tt
-  holds_due (l ∷ past) later g k d = by (printed_entry (count_sent past + 1) l.entry) (each past l later g.0 g.1 k d) (holds_due past (shown l.at (printed_entry (count_sent past + 1) l.entry) later) g.1 (earlier l past k) (before past l later g d))
+  pub holds_owed : (past : List Line) (later : List PrintedLine) → Grown head past → Known past → Due past later → HoldsBefore law later (printed past)
+  holds_owed [] later g k d = tt
+  holds_owed (l ∷ past) later g k d = by (printed_entry (count_sent past + 1) l.entry) (each past l later g.0 g.1 k d) (holds_owed past (shown l.at (printed_entry (count_sent past + 1) l.entry) later) g.1 (earlier l past k) (before past l later g k d))
     where
       by : (o : Option PrintedEntry) → OfPrinted (λ e. law (printed past) (record { at = l.at; entry = e }) later) o → HoldsBefore law (shown l.at o later) (printed past)
           → HoldsBefore law later (elim o [ None ↦ printed past | Some e ↦ record { at = l.at; entry = e } ∷ printed past ])
       by None p h = h
       by (Some e) p h = (p, h)
+
+-- or on nothing
+pub holds_due : (head : Head) (law : Past → PrintedLine → List PrintedLine → Type 0) (Known : List Line → Type 0) (earlier : (l : Line) (past : List Line) → Known (l ∷ past) → Known past) (Due : List Line → List PrintedLine → Type 0)
+    → ((past : List Line) (l : Line) (later : List PrintedLine) → Grown head (l ∷ past) → Due (l ∷ past) later → Due past (shown l.at (printed_entry (count_sent past + 1) l.entry) later))
+    → ((past : List Line) (l : Line) (later : List PrintedLine) → Allowed head past l.at l.entry → Grown head past → Known (l ∷ past) → Due (l ∷ past) later → Keeps law past l later)
+    → (past : List Line) (later : List PrintedLine) → Grown head past → Known past → Due past later → HoldsBefore law later (printed past)
+holds_due head law Known earlier Due before each = holds_owed head law Known earlier Due (λ past l later g k d. before past l later g d) each
 
 -- of a law for which nothing else is asked
 abbrev pub Nothing : List Line → Type 0

@@ -21,15 +21,15 @@ lost_more osts l past n = by l.at.node l.entry
     by (Target t) (Close o) h = ap (λ (b : Bool). b || loses (server_of osts past).committed.0 o n) h
     by (Target t) e h = h
 
--- at the metadata target
-pub lost_whole : (osts : ℕ) (l : Line) (past : List Line) (n : ℕ) → is_lost osts (only 0 past) n ≡ true → is_lost osts (only 0 (l ∷ past)) n ≡ true
-lost_whole osts l past n h = cond_both (concerns 0 l.at.node l.entry) (l ∷ only 0 past) (only 0 past) (λ (P : List Line). is_lost osts P n ≡ true) (λ t. lost_more osts l (only 0 past) n h) (λ t. h)
+-- at a target
+pub lost_whole : (osts t : ℕ) (l : Line) (past : List Line) (n : ℕ) → is_lost osts (only t past) n ≡ true → is_lost osts (only t (l ∷ past)) n ≡ true
+lost_whole osts t l past n h = cond_both (concerns t l.at.node l.entry) (l ∷ only t past) (only t past) (λ (P : List Line). is_lost osts P n ≡ true) (λ e. lost_more osts l (only t past) n h) (λ e. h)
 
-pub stood_before : (osts : ℕ) (l : Line) (past : List Line) (n : ℕ) → is_lost osts (only 0 (l ∷ past)) n ≡ false → is_lost osts (only 0 past) n ≡ false
-stood_before osts l past n h = by (is_lost osts (only 0 past) n) refl
+pub stood_before : (osts t : ℕ) (l : Line) (past : List Line) (n : ℕ) → is_lost osts (only t (l ∷ past)) n ≡ false → is_lost osts (only t past) n ≡ false
+stood_before osts t l past n h = by (is_lost osts (only t past) n) refl
   where
-    by : (b : Bool) → is_lost osts (only 0 past) n ≡ b → b ≡ false
-    by true e = absurd (let more = lost_whole osts l past n e in cc)
+    by : (b : Bool) → is_lost osts (only t past) n ≡ b → b ≡ false
+    by true e = absurd (let more = lost_whole osts t l past n e in cc)
     by false e = refl
 
 -- what is committed is lost by no close

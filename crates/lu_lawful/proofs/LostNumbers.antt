@@ -1,5 +1,5 @@
 -- Over the whole past: the numbers of transactions that a target's closes have lost are by the laws those that are lost by its story.
-use Rattle.std.proofs.Common.{◌≡◌, ℕ, ◌<◌, ◌≤◌, Bool, true, false, List, [], ◌∷◌, Some, None, ◌⊎◌, inl, inr, ⊎_elim, refl, sym, subst, ap, ◌∙◌, arith}
+use Rattle.std.proofs.Common.{◌≡◌, ℕ, ◌<◌, ◌≤◌, Bool, true, false, List, [], ◌∷◌, None, ◌⊎◌, inl, inr, ⊎_elim, refl, sym, subst, ap, ◌∙◌, arith}
 use Rattle.std.specs.Prelude.{nat_eq, nat_lt, not, ◌&&◌, ◌||◌, if◌then◌else◌, filter}
 use Rattle.std.proofs.lemmas.Bool.Decides.{nat_tests}
 use Rattle.std.proofs.lemmas.Bool.{and_parts, and_from, eqb-true, ltb-true, lt-ltb, not-true, not_from_false, false_from_ne_true}
@@ -10,7 +10,7 @@ use Rattle.lu_base.specs.declared.ids.Stamp.{Stamp}
 use Rattle.lu_base.specs.declared.ids.Txn.{Txn as TxnOf}
 use Rattle.lu_msg.specs.declared.messages.Reply.{Reply as ReplyTo}
 use Rattle.lu_words.specs.Carried.{Deed, Outcome}
-use Rattle.lu_words.specs.Words.{Entry, Act, Txn as Made, Grant, Close, Fail, Line, line}
+use Rattle.lu_words.specs.Words.{Entry, Txn as Made, Close, Fail, Line, line}
 use Rattle.lu_words.specs.Concerns.{concerns, only}
 use Rattle.lu_words.specs.Printed.{printed}
 use Rattle.lu_covered.specs.TargetStates.{server_of}
@@ -31,15 +31,16 @@ use Rattle.lu_facts.proofs.Groups.{turn, Acted, IsMade, Stands, HoldsAt}
 use Rattle.lu_facts.proofs.All.{holds}
 use Rattle.lu_facts.proofs.Exact as exact
 use Rattle.lu_facts.proofs.Exact.{IsBack, HeardBy, committed_then}
-use Rattle.lu_facts.proofs.GrantLines.{grant_made}
+use Rattle.lu_facts.proofs.Lines.{acted_more, only_more}
+use Rattle.lu_facts.proofs.ObjectDeeds.{makes}
 use Rattle.lu_lawful.proofs.Printed.{flip}
 use Rattle.lu_lawful.proofs.Taking.{none_due}
 use Rattle.lu_lawful.proofs.Backs.{window_law, law_window}
 use Rattle.lu_lawful.proofs.OneWord.{one_told}
 use Rattle.lu_lawful.proofs.CloseHeard.{number_law, law_number}
 use Rattle.lu_lawful.proofs.Commits.{told_committed}
-use Rattle.lu_lawful.proofs.Story.{made_story}
-use Rattle.lu_lawful.proofs.Deeds.{act_for}
+use Rattle.lu_lawful.proofs.NewDeeds.{client_acted, made_new}
+use Rattle.lu_lawful.proofs.Story.{target_is}
 use Rattle.lu_lawful.proofs.CloseLost.{made_of, trans, all_trans, transactions_are, Fall, made_acted, acted_made, made_fall, fall_filter, among_more, lost_some, lost_each}
 
 -- no disk fails
@@ -168,14 +169,8 @@ lost_made head t (l ∷ past) g n e = by l.at.node l.entry g.0 e (lost_made head
     more : (node : Node) (x : Entry) → Some_lost P → Some_lost (only t (line (turn l.at.stamp node) x ∷ past))
     more node x s = (s.0, of (concerns t node x), s.2, s.3)
       where
-        on : (x : Entry) → Acted (line (turn l.at.stamp node) x ∷ P) s.0
-        on (Act d) = inr s.1
-        on (Made d) = inr s.1
-        on (Grant lock asked) = inr s.1
-        on _ = s.1
-
         of : (b : Bool) → Acted (if b then line (turn l.at.stamp node) x ∷ P else P) s.0
-        of true = on x
+        of true = acted_more (turn l.at.stamp node) x P s.0 s.1
         of false = s.1
 
     decided : is_among (loses t (printed past) (lost_numbers t (printed past))) n ≡ true → Some_lost P
@@ -216,13 +211,13 @@ lost_at head t (l ∷ past) g d a made = by l.at.node l.entry g a (lost_at head 
     Old : Type 0
     Old = (e : Deed) → Acted P e → IsMade e → is_lost (printed past) t e.reply.txn.0 ≡ story.is_lost head.osts P e.reply.txn.0
 
-    quiet : (node : Node) (x : Entry) → (Acted (line (turn l.at.stamp node) x ∷ P) d → Acted P d) → story.is_lost head.osts (line (turn l.at.stamp node) x ∷ P) n ≡ story.is_lost head.osts P n → Acted (only t (line (turn l.at.stamp node) x ∷ past)) d → Old
+    quiet : (node : Node) (x : Entry) → (concerns t node x ≡ true → Acted (line (turn l.at.stamp node) x ∷ P) d → Acted P d) → story.is_lost head.osts (line (turn l.at.stamp node) x ∷ P) n ≡ story.is_lost head.osts P n → Acted (only t (line (turn l.at.stamp node) x ∷ past)) d → Old
         → is_lost (printed past) t n ≡ story.is_lost head.osts (only t (line (turn l.at.stamp node) x ∷ past)) n
-    quiet node x old same a h = of (concerns t node x) a
+    quiet node x old same a h = of (concerns t node x) refl a
       where
-        of : (b : Bool) → Acted (if b then line (turn l.at.stamp node) x ∷ P else P) d → is_lost (printed past) t n ≡ story.is_lost head.osts (if b then line (turn l.at.stamp node) x ∷ P else P) n
-        of true a = h d (old a) made ∙ sym same
-        of false a = h d a made
+        of : (b : Bool) → concerns t node x ≡ b → Acted (if b then line (turn l.at.stamp node) x ∷ P else P) d → is_lost (printed past) t n ≡ story.is_lost head.osts (if b then line (turn l.at.stamp node) x ∷ P else P) n
+        of true q a = h d (old q a) made ∙ sym same
+        of false q a = h d a made
 
     -- a new transaction isn't lost
     made_now : (u : ℕ) (x : Deed) → Grown head (line (turn l.at.stamp (Target u)) (Made x) ∷ past) → nat_eq t u ≡ true → is_lost (printed past) t x.reply.txn.0 ≡ story.is_lost head.osts P x.reply.txn.0
@@ -231,8 +226,9 @@ lost_at head t (l ∷ past) g d a made = by l.at.node l.entry g a (lost_at head 
         let now = g.0.of t own in
         let h = (holds head past g.1).at t in
         let fall : Fall (x ∷ made_of P) = subst (λ (p : List Line). Fall (made_of p)) (ap (λ (b : Bool). if b then line (turn l.at.stamp (Target u)) (Made x) ∷ P else P) own) (made_fall head (only t (line (turn l.at.stamp (Target u)) (Made x) ∷ past)) (grown_of head t (line (turn l.at.stamp (Target u)) (Made x) ∷ past) g)) in
-        let number = ap (λ (v : Deed). v.reply.txn.0) now.is in
-        let serves = now.serves.closed in
+        let k = makes head.osts P (turn l.at.stamp (Target u)) u x now in
+        let number = ap (λ (v : TxnOf). v.0) k.number in
+        let serves = k.serves.closed in
         false_from_ne_true (is_lost (printed past) t x.reply.txn.0) (λ e. let r = lost_made head t past g.1 x.reply.txn.0 e in let less = fall.0 r.0 (acted_made head P story_grown r.0 r.1 r.2) in let same = r.3 in omega (arith, less, same))
         ∙ sym (h.history.later x.reply.txn.0 (omega (arith, number, serves)))
 
@@ -271,7 +267,6 @@ lost_at head t (l ∷ past) g d a made = by l.at.node l.entry g a (lost_at head 
 
     by : (node : Node) (x : Entry) → Grown head (line (turn l.at.stamp node) x ∷ past) → Acted (only t (line (turn l.at.stamp node) x ∷ past)) d → Old → is_lost (printed (line (turn l.at.stamp node) x ∷ past)) t n ≡ story.is_lost head.osts (only t (line (turn l.at.stamp node) x ∷ past)) n
     by (Client c) (Made x) g a h = absurd g.0.ok
-    by (Client c) (Act x) g a h = absurd g.0.ok
     by (Client c) (Close o) g a h = absurd g.0.ok
     by (Client c) Fail g a h = absurd g.0.ok
     by (Target u) Fail g a h = absurd g.0.ok
@@ -281,23 +276,6 @@ lost_at head t (l ∷ past) g d a made = by l.at.node l.entry g a (lost_at head 
         of false q a = h d a made
         of true q (inl e) = subst (λ (v : Deed). is_lost (printed past) t v.reply.txn.0 ≡ story.is_lost head.osts P v.reply.txn.0) e (made_now u x g q)
         of true q (inr b) = h d b made
-    by (Target u) (Act x) g a h = of (nat_eq t u) refl a
-      where
-        zero_txn : nat_eq t u ≡ true → x ≡ d → ⊥
-        zero_txn q e = let z = ap (λ (v : Deed). v.reply.txn.0) (sym e) in let none = ap (λ (v : TxnOf). v.0) (act_for head past l.at.stamp u x g.0).number in omega (arith, z, none, made)
-
-        of : (b : Bool) → nat_eq t u ≡ b → Acted (if b then line (turn l.at.stamp (Target u)) (Act x) ∷ P else P) d → is_lost (printed past) t n ≡ story.is_lost head.osts (if b then line (turn l.at.stamp (Target u)) (Act x) ∷ P else P) n
-        of false q a = h d a made
-        of true q (inl e) = absurd (zero_txn q e)
-        of true q (inr b) = h d b made
-    by (Client c) (Grant lock asked) g a h = absurd g.0.ok
-    by (Target u) (Grant lock None) g a h = absurd g.0.ok
-    by (Target u) (Grant lock (Some x)) g a h = of (nat_eq t u) refl a
-      where
-        of : (b : Bool) → nat_eq t u ≡ b → Acted (if b then line (turn l.at.stamp (Target u)) (Grant lock (Some x)) ∷ P else P) d
-            → is_lost (printed past) t n ≡ story.is_lost head.osts (if b then line (turn l.at.stamp (Target u)) (Grant lock (Some x)) ∷ P else P) n
-        of false q a = h d a made
-        of true q a = h d (grant_made head.osts P (turn l.at.stamp (Target u)) u lock x (g.0.of t q) d a made) made
     by (Target u) (Close o) g a h = of (nat_eq t u) refl
       where
         new : Line
@@ -310,24 +288,39 @@ lost_at head t (l ∷ past) g d a made = by l.at.node l.entry g a (lost_at head 
             old : (b : Bool) → Acted (if b then new ∷ P else P) d → Acted P d
             old true a = a
             old false a = a
-    by (Client c) x g a h = quiet (Client c) x (λ b. b) refl a h
-    by (Target u) x g a h = quiet (Target u) x (λ b. b) refl a h
+    by (Client c) x g a h = quiet (Client c) x (λ q b. client_acted head P l.at.stamp c x d (g.0.of t q) b) refl a h
+    by (Target u) x g a h =
+        quiet (Target u) x (λ q b. ⊎_elim (λ (e : x ≡ Made d). absurd (cc)) (λ (o : Acted P d). o) (made_new head P l.at.stamp u x d (g.0.of t q) b made)) refl a h
 
-was_acted : (head : Head) (past : List Line) → Grown head past → (n : ℕ) → WasMade past n → (d : Deed) × Acted past d × IsMade d × (d.reply.txn.0 ≡ n)
-was_acted head [] g n w = absurd w
-was_acted head (l ∷ past) g n w = by l.at.node l.entry g.0 w (was_acted head past g.1 n)
+was_acted : (head : Head) (t : ℕ) (past : List Line) → Grown head past → (n : ℕ) → WasMade t past n → (d : Deed) × Acted (only t past) d × IsMade d × (d.reply.txn.0 ≡ n)
+was_acted head t [] g n w = absurd w
+was_acted head t (l ∷ past) g n w = by l.at.node l.entry g.0 w (was_acted head t past g.1 n)
   where
+    P : List Line
+    P = only t past
+
     Was_acted : List Line → Type 0
     Was_acted p = (d : Deed) × Acted p d × IsMade d × (d.reply.txn.0 ≡ n)
 
-    by : (node : Node) (x : Entry) → Allowed head past (turn l.at.stamp node) x → WasMade (line (turn l.at.stamp node) x ∷ past) n → (WasMade past n → Was_acted past) → Was_acted (line (turn l.at.stamp node) x ∷ past)
-    by (Client c) (Made x) k w h = absurd k.ok
-    by (Target u) (Made x) k (inl e) h = (x, inl refl, let is = ap (λ (v : Deed). v.reply.txn.0) (k.of u (self u)).is in omega (arith, is), e)
-    by (Target u) (Made x) k (inr w) h = let r = h w in (r.0, inr r.1, r.2, r.3)
-    by node (Act x) k w h = let r = h w in (r.0, inr r.1, r.2, r.3)
-    by node (Grant lock asked) k w h = let r = h w in (r.0, inr r.1, r.2, r.3)
-    by node x k w h = h w
+    more : (node : Node) (x : Entry) → Was_acted P → Was_acted (only t (line (turn l.at.stamp node) x ∷ past))
+    more node x r = (r.0, only_more t (line (turn l.at.stamp node) x) past r.0 r.1, r.2, r.3)
 
--- at the metadata target, of what was made so far
-pub lost_is : (head : Head) (past : List Line) → Grown head past → (n : ℕ) → WasMade past n → is_lost (printed past) 0 n ≡ story.is_lost head.osts (only 0 past) n
-lost_is head past g n made = let d = was_acted head past g n made in subst (λ (m : ℕ). is_lost (printed past) 0 m ≡ story.is_lost head.osts (only 0 past) m) d.3 (lost_at head 0 past g d.0 (made_story head past d.0 g d.1 d.2) d.2)
+    -- the line is of that target
+    here : (u : ℕ) (x : Deed) → Allowed head past (turn l.at.stamp (Target u)) (Made x) → Target u ≡ Target t → x.reply.txn.0 ≡ n → Was_acted (only t (line (turn l.at.stamp (Target u)) (Made x) ∷ past))
+    here u x k same e =
+        let own : nat_eq t u ≡ true = subst (λ (v : ℕ). nat_eq t v ≡ true) (target_is t u (sym same)) (self t) in (
+          x,
+          subst (λ (b : Bool). Acted (if b then line (turn l.at.stamp (Target u)) (Made x) ∷ P else P) x) (sym own) (inl refl),
+          let is = ap (λ (v : TxnOf). v.0) (makes head.osts P (turn l.at.stamp (Target u)) u x (k.of t own)).number in omega (arith, is),
+          e,
+        )
+
+    by : (node : Node) (x : Entry) → Allowed head past (turn l.at.stamp node) x → WasMade t (line (turn l.at.stamp node) x ∷ past) n → (WasMade t past n → Was_acted P) → Was_acted (only t (line (turn l.at.stamp node) x ∷ past))
+    by (Client c) (Made x) k w h = absurd k.ok
+    by (Target u) (Made x) k (inl e) h = here u x k e.0 e.1
+    by (Target u) (Made x) k (inr w) h = more (Target u) (Made x) (h w)
+    by node x k w h = more node x (h w)
+
+-- of what the target made so far
+pub lost_is : (head : Head) (t : ℕ) (past : List Line) → Grown head past → (n : ℕ) → WasMade t past n → is_lost (printed past) t n ≡ story.is_lost head.osts (only t past) n
+lost_is head t past g n made = let d = was_acted head t past g n made in subst (λ (m : ℕ). is_lost (printed past) t m ≡ story.is_lost head.osts (only t past) m) d.3 (lost_at head t past g d.0 d.1 d.2)

@@ -1,5 +1,5 @@
 -- The law of messages holds of the printed past of every grown one.
-use Rattle.std.proofs.Common.{◌+◌, List, [], ◌∷◌, Option, Some, None, ⊎_elim, ◌∙◌, arith}
+use Rattle.std.proofs.Common.{◌+◌, List, [], ◌∷◌, Option, Some, None, ◌∙◌, arith}
 use Rattle.lu_base.specs.declared.ids.At.{At}
 use Rattle.lu_base.specs.declared.ids.Node.{Node}
 use Rattle.lu_base.specs.declared.ids.Node.TheVariants.{Client, Target}
@@ -11,11 +11,11 @@ use Rattle.lu_words.specs.Printed.{printed_entry, printed}
 use Rattle.lu_covered.specs.Heads.{Head}
 use Rattle.lu_laws.specs.Laws.Messages.{Follows, Lives, Passes, MessagesAt, Messages}
 use Rattle.lu_laws.specs.Holds.{Holds}
-use Rattle.lu_guards.proofs.Guards.{Steps, ToldOk, KnownOk, EndsOk, BadOk, SizesToldOk, FlushedOk, ReadToldOk, StatToldOk}
+use Rattle.lu_guards.proofs.Guards.{Steps}
 use Rattle.lu_guards.proofs.Grown.{LivesAt, Allowed, Grown}
 use Rattle.lu_facts.proofs.Groups.{turn}
 use Rattle.lu_lawful.proofs.Turns.{steps_trans, upto_is}
-use Rattle.lu_lawful.proofs.Printed.{sends_is, sent_to, died_is, free_is, open_is_some}
+use Rattle.lu_lawful.proofs.Printed.{sends_is, sent_to, died_is, free_is, open_is_some, told_running}
 use Rattle.lu_lawful.proofs.Lines.{OfPrinted, Keeps, holds_before, Nothing}
 
 -- ---- turns
@@ -42,22 +42,7 @@ messages_at head past l later a g = at (printed_entry (count_sent past + 1) l.en
     by node (Send to m) k = let q = sends_is past in omega arith
     by node (Take n from m) k = sent_to past n from node m k.ok.sent
     by (Client c) (Begin slot running) k = free_is head c slot past g k.ok.free
-    by (Client c) (Told slot at answer work) k = ⊎_elim
-        (λ (ok : ToldOk past (turn l.at.stamp (Client c)) c slot at answer work). open_is_some head c slot past ok.running g ok.call)
-        (⊎_elim
-        (λ (ok : KnownOk past (turn l.at.stamp (Client c)) c slot at answer work). open_is_some head c slot past ok.running g ok.call)
-        (⊎_elim
-        (λ (ok : EndsOk past (turn l.at.stamp (Client c)) c slot at answer work). open_is_some head c slot past ok.running g ok.call)
-        (⊎_elim
-        (λ (ok : BadOk past (turn l.at.stamp (Client c)) c slot at answer work). open_is_some head c slot past ok.running g ok.call)
-        (⊎_elim
-        (λ (ok : SizesToldOk past (turn l.at.stamp (Client c)) c slot at answer work). open_is_some head c slot past ok.running g ok.call)
-        (⊎_elim
-        (λ (ok : FlushedOk past (turn l.at.stamp (Client c)) c slot at answer work). open_is_some head c slot past ok.running g ok.call)
-        (⊎_elim
-        (λ (ok : ReadToldOk past (turn l.at.stamp (Client c)) c slot at answer work). open_is_some head c slot past ok.running g ok.call)
-        (λ (ok : StatToldOk past (turn l.at.stamp (Client c)) c slot at answer work). open_is_some head c slot past ok.running g ok.call)))))))
-        k.ok
+    by (Client c) (Told slot at answer work) k = let r = told_running past (turn l.at.stamp (Client c)) c slot at answer work k.ok in open_is_some head c slot past r.0 g r.1
     by (Target t) (Begin slot running) k = absurd k.ok
     by (Target t) (Told slot at answer work) k = absurd k.ok
     by (Target t) Tick k = tt

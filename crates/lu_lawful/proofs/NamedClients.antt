@@ -10,9 +10,11 @@ use Rattle.lu_base.specs.declared.locks.Cause.{Cause}
 use Rattle.lu_base.specs.declared.locks.Lock.{Lock}
 use Rattle.lu_msg.specs.declared.answers.Answer.{Answer}
 use Rattle.lu_msg.specs.declared.messages.Message.{Message}
+use Rattle.lu_msg.specs.declared.messages.GrantNotice.{GrantNotice}
 use Rattle.lu_msg.specs.declared.messages.Message.TheVariants as message
 use Rattle.lu_msg.specs.declared.messages.Reply.{Reply as ReplyTo}
 use Rattle.lu_msg.specs.declared.messages.Request.{Request as RequestOf}
+use Rattle.lu_held.specs.Locks.{same_resource}
 use Rattle.lu_trace.specs.declared.entries.Entry.{Entry as PrintedEntry}
 use Rattle.lu_words.specs.Carried.{Deed, Flight, Outcome, Work}
 use Rattle.lu_words.specs.Words.{Entry, Send, Flies, Told, Life, Act, Txn as Made, Grant, Wait, Back, Stores, Brings, Says, Wishes, Close, Restore, Evict, Joined, Line, line}
@@ -20,24 +22,24 @@ use Rattle.lu_words.specs.Concerns.{concerns, only}
 use Rattle.lu_words.specs.Sent.{count_sent}
 use Rattle.lu_words.specs.Printed.{printed_entry, printed}
 use Rattle.lu_target_rows.specs.Lives.{is_life}
+use Rattle.lu_target_rows.specs.Replies.{locks_on}
 use Rattle.lu_covered.specs.TargetStates.{server_of, lives_of, evicted_of, window_of}
 use Rattle.lu_covered.specs.ClientStates.{life_of}
 use Rattle.lu_covered.specs.Heads.{Head}
 use Rattle.lu_laws.specs.Words.Clients.{node_clients, message_clients, entry_clients, clients}
-use Rattle.lu_guards.proofs.Guards.{In, Was, IsMark, BackNow, EntryOk, ToldOk, KnownOk, EndsOk, BadOk, SizesToldOk, FlushedOk, ReadToldOk, StatToldOk}
-use Rattle.lu_guards.proofs.StoryGuards.{SaidBy, Spoke, Newer, GrantOk, RangeOk, CloseOk, EvictOk, LeavesOk, JoinedOk, ComesOk, KeepsOk, IsRecovering, EntryOf}
+use Rattle.lu_guards.proofs.Guards.{In, Was, IsMark, BackNow, EntryOk, ToldOk, KnownOk, EndsOk, BadOk, SizesToldOk, FlushedOk, ReadToldOk, StatToldOk, WroteOk}
+use Rattle.lu_guards.proofs.StoryGuards.{SaidBy, Spoke, Newer, GrantOk, RangeOk, CloseOk, EvictOk, LeavesOk, JoinedOk, ComesOk, KeepsOk, IsRecovering, ReportedOk, EntryOf}
 use Rattle.lu_guards.proofs.Grown.{Allowed, Grown, GrownOf, LivesAt}
-use Rattle.lu_guards.proofs.Lists.{self, life_is}
+use Rattle.lu_guards.proofs.Lists.{self, life_is, in_right, in_filter}
 use Rattle.lu_guards.proofs.Only.{was_back, was_only, grown_of}
 use Rattle.lu_facts.proofs.Groups.{turn, Flew, Acted, Gave, Had, HasSlot, Evicted, Recovers}
-use Rattle.lu_facts.proofs.Lines.{acted_whole, flew_whole, life_only}
+use Rattle.lu_facts.proofs.Lines.{DoneBy, DoneIn, acted_line, done_here, reported_said, acted_whole, flew_whole, life_only}
 use Rattle.lu_facts.proofs.Brings.{of_reply}
 use Rattle.lu_facts.proofs.DoneGrows.{did_acted}
 use Rattle.lu_facts.proofs.LifeLists.{put_or, back_word}
 use Rattle.lu_facts.proofs.LivesClose.{out_now}
 use Rattle.lu_facts.proofs.All.{holds}
-use Rattle.lu_facts.proofs.Sides.{acted_at}
-use Rattle.lu_lawful.proofs.Deeds.{act_for}
+use Rattle.lu_lawful.proofs.Deeds.{act_for, txn_for}
 
 -- ---- who spoke
 
@@ -65,14 +67,17 @@ acted_low head past t d g a = let f = ((holds head past g).at t).done.flew d a i
 gave_low : (head : Head) (past : List Line) (t : ℕ) (d : Deed) (lock : Lock) → Grown head past → Gave (only t past) d lock → Low head lock.ask.who
 gave_low head past t d lock g a = subst (Low head) (sym (((holds head past g).at t).locks.whose d lock a)) (acted_low head past t d g a.0)
 
--- what acts does so at a target
-acted_target : (head : Head) (past : List Line) (d : Deed) → Grown head past → Acted past d → node_clients d.reply.at.node ≡ 0
-acted_target head past d g a = let n = acted_at head past d g a in ap node_clients n.1
-
 -- what clients send, in their own name
 sends_low : (head : Head) (past : List Line) (stamp : Stamp) (c : ℕ) (to : Node) (m : Message) → Allowed head past (turn stamp (Client c)) (Send to m) → Grown head past → (max (node_clients to) (message_clients m) ≤ head.clients) × ((who : Who) → SaidBy who m → Low head who)
 sends_low head past stamp c (Target t) (message.Request r) k g = let lt = own_low head past t c r.who g k.lives.one (ap (λ v. v.who) (k.of t (self t)).is) in (omega (arith, lt), λ who e. subst (Low head) e lt)
 sends_low head past stamp c (Target t) (message.Cancel other boot cookie) k g = let lt = own_low head past t c other g k.lives.one (k.of t (self t)).of_life in (omega (arith, lt), λ who e. subst (Low head) e lt)
+sends_low head past stamp c (Target t) (message.Where other boot cookie) k g = let lt = own_low head past t c other g k.lives.one (k.of t (self t)).of_life in (omega (arith, lt), λ who e. subst (Low head) e lt)
+sends_low head past stamp c (Target t) (message.Size m) k g =
+    let ok = k.of t (self t) in
+    let lt = own_low head past t c m.who g k.lives.one ok.of_life in
+    let asked = ((holds head past g).at t).done.sent (Target t) (Client c) (message.Ask m.who ok.boot m.cookie m.for_who m.xid) ok.was in
+    let for = flew_low head past m.for_who asked.2.0 g (flew_whole t past m.for_who asked.2.0 asked.2.1) in
+    (omega (arith, lt, for), λ who e. subst (Low head) e lt)
 sends_low head past stamp c (Target t) (message.Join other boot) k g = let lt = own_low head past t c other g k.lives.one (k.of t (self t)).of_life in (omega (arith, lt), λ who e. absurd e)
 sends_low head past stamp c (Target t) (message.Replay r) k g = let lt = own_low head past t c r.who g k.lives.one (k.of t (self t)).tells.of_life in (omega (arith, lt), λ who e. subst (Low head) e lt)
 sends_low head past stamp c (Target t) (message.Lock r) k g = let lt = own_low head past t c r.who g k.lives.one (k.of t (self t)).tells.of_life in (omega (arith, lt), λ who e. subst (Low head) e lt)
@@ -89,6 +94,10 @@ said_low head (l ∷ past) from to m who g w s = by l.at.node l.entry g.0 w (λ 
     from_target t (Target u) (message.Request r) a s = absurd a.ok
     from_target t (Client c) (message.Cancel other boot cookie) a s = absurd a.ok
     from_target t (Target u) (message.Cancel other boot cookie) a s = absurd a.ok
+    from_target t (Client c) (message.Where other boot cookie) a s = absurd a.ok
+    from_target t (Target u) (message.Where other boot cookie) a s = absurd a.ok
+    from_target t (Client c) (message.Size m) a s = absurd a.ok
+    from_target t (Target u) (message.Size m) a s = absurd a.ok
     from_target t (Client c) (message.Replay r) a s = absurd a.ok
     from_target t (Target u) (message.Replay r) a s = absurd a.ok
     from_target t (Client c) (message.Lock r) a s = absurd a.ok
@@ -105,6 +114,23 @@ said_low head (l ∷ past) from to m who g w s = by l.at.node l.entry g.0 w (λ 
 
 spoke_low : (head : Head) (past : List Line) (t u : ℕ) (who : Who) → Grown head past → Spoke (only t past) u who → Low head who
 spoke_low head past t u who g s = said_low head past (Client s.0) (Target u) s.1 who g (was_back t past (Client s.0) (Target u) s.1 s.2) s.3
+
+-- ---- where what is done is done
+
+-- at a target, or it is a size that a client said
+acted_node : (head : Head) (past : List Line) (d : Deed) → Grown head past → Acted past d → node_clients d.reply.at.node ≤ head.clients
+acted_node head [] d g a = absurd a
+acted_node head (l ∷ past) d g a = ⊎_elim (λ (p : DoneBy l.entry d). by (done_here head past l.at.stamp l.at.node l.entry g.0.ok g.0.of g.0.owes d p)) (λ (b : Acted past d). acted_node head past d g.1 b) (acted_line l.at l.entry past d a)
+  where
+    by : (t : ℕ) × (l.at.node ≡ Target t) × DoneIn head past l.at.stamp t d → node_clients d.reply.at.node ≤ head.clients
+    by k = ⊎_elim
+        (λ (w : d.reply.at ≡ turn l.at.stamp (Target k.0)). let zero : node_clients d.reply.at.node ≡ 0 = ap (λ (v : At). node_clients v.node) w in omega (arith, zero))
+        (λ (r : ReportedOk head.osts (only k.0 past) (turn l.at.stamp (Target k.0)) k.0 d).
+        let said = reported_said head.osts (only k.0 past) (turn l.at.stamp (Target k.0)) k.0 d r in
+        let lt = said_low head past (Client said.0.0) (Target k.0) (message.Size r.report) r.report.who g.1 (was_back k.0 past (Client said.0.0) (Target k.0) (message.Size r.report) said.0.1) refl in
+        let is : node_clients d.reply.at.node ≡ suc r.report.who.client = ap (λ (v : At). node_clients v.node) said.1 in
+        omega (arith, lt, is))
+        k.2
 
 -- ---- who has or had a slot
 
@@ -168,7 +194,7 @@ tells_low head past stamp t (Client c) (message.Reply r) k g =
     let new : Grown head (l ∷ past) = (k, g) in
     let sent = ((holds head (l ∷ past) new).at t).done.sent (Target t) (Client c) (message.Reply r) (was_only t (l ∷ past) (Target t) (Client c) (message.Reply r) (self t) (inl (refl, refl, refl))) in
     let lt : r.who.client < head.clients = subst (λ (v : ReplyTo). Low head v.who) (sym sent.is) (acted_low head (l ∷ past) t sent.deed new sent.acted) in
-    let at : node_clients r.at.node ≡ 0 = subst (λ (v : ReplyTo). node_clients v.at.node ≡ 0) (sym sent.is) (acted_target head (l ∷ past) sent.deed new (acted_whole t (l ∷ past) sent.deed sent.acted)) in
+    let at : node_clients r.at.node ≤ head.clients = subst (λ (v : ReplyTo). node_clients v.at.node ≤ head.clients) (sym sent.is) (acted_node head (l ∷ past) sent.deed new (acted_whole t (l ∷ past) sent.deed sent.acted)) in
     let to = sent.to in
     omega (arith, lt, at, to)
 tells_low head past stamp t (Client c) (message.Block other boot cookie) k g =
@@ -177,6 +203,20 @@ tells_low head past stamp t (Client c) (message.Block other boot cookie) k g =
     let lt : other.client < head.clients = subst (Low head) (sym ok.of_life) (gave_low head past t gave.0 ok.lock g gave.1) in
     let to = ok.to in
     omega (arith, lt, to)
+tells_low head past stamp t (Client c) (message.Grant n) k g =
+    let ok = k.of t (self t) in
+    let gave = ((holds head past g).at t).locks.granted ok.lock ok.granted in
+    let lt : n.who.client < head.clients = subst (Low head) (sym (ap (λ (v : GrantNotice). v.who) ok.is)) (gave_low head past t gave.0 ok.lock g gave.1) in
+    let to : c ≡ n.who.client = ok.to ∙ ap (λ (v : GrantNotice). v.who.client) (sym ok.is) in
+    omega (arith, lt, to)
+tells_low head past stamp t (Client c) (message.Ask other boot cookie for_who xid) k g =
+    let ok = k.of t (self t) in
+    let gave = ((holds head past g).at t).locks.granted ok.lock ok.granted in
+    let lt : other.client < head.clients = subst (Low head) (sym ok.of_life) (gave_low head past t gave.0 ok.lock g gave.1) in
+    let f = ((holds head past g).at t).done.glimpses ok.glimpse ok.waits in
+    let for : for_who.client < head.clients = subst (Low head) (sym ok.for_life) (flew_low head past ok.glimpse.request.who f.0 g (flew_whole t past ok.glimpse.request.who f.0 f.1)) in
+    let to = ok.to in
+    omega (arith, lt, for, to)
 tells_low head past stamp t (Client c) (message.Ready other boot committed) k g = let ok = k.of t (self t) in let lt : other.client < head.clients = slot_low head past t other g ok.has in let to = ok.to in omega (arith, lt, to)
 tells_low head past stamp t (Client c) (message.Evicted other boot) k g =
     let ok = k.of t (self t) in
@@ -222,8 +262,9 @@ told_low : (head : Head) (past : List Line) (at : At) (c slot : ℕ) (of : At) (
 told_low head past at c slot of answer work g lt here ok = ⊎_elim
     (λ (k : ToldOk past at c slot of answer work).
     let r = (holds head past g).replies c slot k.target k.running k.reply k.call k.answered in
-    let zero : node_clients of.node ≡ 0 = ap (λ (v : At). node_clients v.node) k.of_turn ∙ ap (λ (v : ReplyTo). node_clients v.at.node) (sym r.is) ∙ acted_target head past r.deed g (acted_whole k.target past r.deed r.acted) in
-    omega (arith, zero))
+    let same : node_clients of.node ≡ node_clients r.deed.reply.at.node = ap (λ (v : At). node_clients v.node) k.of_turn ∙ ap (λ (v : ReplyTo). node_clients v.at.node) (sym r.is) in
+    let le = acted_node head past r.deed g (acted_whole k.target past r.deed r.acted) in
+    omega (arith, same, le))
     (⊎_elim
     (λ (k : KnownOk past at c slot of answer work). own k.of_turn)
     (⊎_elim
@@ -234,7 +275,9 @@ told_low head past at c slot of answer work g lt here ok = ⊎_elim
     (λ (k : SizesToldOk past at c slot of answer work). own k.of_turn)
     (⊎_elim
     (λ (k : FlushedOk past at c slot of answer work). own k.of_turn)
-    (⊎_elim (λ (k : ReadToldOk past at c slot of answer work). own k.of_turn) (λ (k : StatToldOk past at c slot of answer work). own k.of_turn)))))))
+    (⊎_elim
+    (λ (k : ReadToldOk past at c slot of answer work). own k.of_turn)
+    (⊎_elim (λ (k : StatToldOk past at c slot of answer work). own k.of_turn) (λ (k : WroteOk past at c slot of answer work). own k.of_turn))))))))
     ok
   where
     own : of ≡ at → node_clients of.node ≤ head.clients
@@ -257,17 +300,22 @@ line_low head past stamp (Target t) (Life who) k g n = absurd k.ok
 line_low head past stamp (Client c) (Act d) k g n = absurd k.ok
 line_low head past stamp (Target t) (Act d) k g n = let ok = act_for head past stamp t d k in let lt = waited_low head past t ok.request d.reply.who g ok.waits ok.who in omega (arith, lt)
 line_low head past stamp (Client c) (Made d) k g n = absurd k.ok
-line_low head past stamp (Target t) (Made d) k g n = let ok = k.of t (self t) in let lt = waited_low head past t ok.request d.reply.who g ok.waits (ap (λ (v : Deed). v.reply.who) ok.is) in omega (arith, lt)
+line_low head past stamp (Target t) (Made d) k g n = let ok = txn_for head past stamp t d k in let lt = waited_low head past t ok.request d.reply.who g ok.waits ok.who in omega (arith, lt)
 line_low head past stamp (Client c) (Grant lock asked) k g n = absurd k.ok
-line_low head past stamp (Target t) (Grant lock None) k g n = absurd k.ok
+line_low head past stamp (Target t) (Grant lock None) k g n =
+    let ok = (k.of t (self t)).1 in
+    let asked : In ok.asked (locks_on lock.resource (server_of head.osts (only t past)).queued) = subst (In ok.asked) (sym ok.queue) (in_right ok.asked ok.ahead (ok.asked ∷ ok.later) (inl refl)) in
+    let q = ((holds head past g).at t).locks.waits ok.asked (in_filter (λ (l : Lock). same_resource l.resource lock.resource) ok.asked (server_of head.osts (only t past)).queued asked).0 in
+    let lt : Low head lock.ask.who = subst (Low head) (sym (ap (λ (l : Lock). l.ask.who) ok.of_lock ∙ q.who)) (acted_low head past t q.deed g q.acted) in
+    omega (arith, lt)
 line_low head past stamp (Target t) (Grant lock (Some d)) k g n =
     let lt : Low head lock.ask.who = ⊎_elim
-    (λ (ok : (t ≡ 0) × GrantOk head.osts (only t past) lock d). gave_low head past t d lock g (did_acted (only t past) d ok.1.did, of_reply d.op d.reply lock ok.1.among))
+    (λ (ok : (t ≡ 0) × GrantOk head.osts (only t past) lock d). gave_low head past t d lock g (did_acted (only t past) d ok.1.did, inl (of_reply d.op d.reply lock ok.1.among)))
     (λ (ok : (0 < t) × RangeOk head.osts (only t past) (turn stamp (Target t)) lock d). waited_low head past t ok.1.request lock.ask.who g ok.1.waits (ap (λ (l : Lock). l.ask.who) ok.1.of_lock))
     (k.of t (self t)) in
     omega (arith, lt)
 line_low head past stamp (Client c) (Wait lock asked) k g n = absurd k.ok
-line_low head past stamp (Target t) (Wait lock asked) k g n = absurd k.ok
+line_low head past stamp (Target t) (Wait lock asked) k g n = let ok = (k.of t (self t)).1 in let lt = waited_low head past t ok.request lock.ask.who g ok.waits (ap (λ (l : Lock). l.ask.who) ok.of_lock) in omega (arith, lt)
 line_low head past stamp (Client c) (Back who) k g n = absurd k.ok
 line_low head past stamp (Target t) (Back who) k g n = let lt = slot_low head past t who g (back_slot head past t who g (k.of t (self t)).0) in omega (arith, lt)
 line_low head past stamp (Client c) (Restore lock) k g n = absurd k.ok

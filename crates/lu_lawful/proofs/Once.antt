@@ -14,8 +14,8 @@ use Rattle.lu_msg.specs.declared.messages.Message.TheVariants as message
 use Rattle.lu_msg.specs.declared.messages.Request.{Request as RequestOf}
 use Rattle.lu_msg.specs.declared.operations.Op.{Op}
 use Rattle.lu_words.specs.Carried.{Deed, Flight}
-use Rattle.lu_words.specs.Words.{Entry, Act, Txn as Made, Grant, Boot, Close, Evict, Enters, Line, line, turn_before}
-use Rattle.lu_words.specs.Concerns.{only}
+use Rattle.lu_words.specs.Words.{Entry, Act, Txn as Made, Grant, Wait, Answers as Responds, Boot, Close, Evict, Enters, Line, line, turn_before}
+use Rattle.lu_words.specs.Concerns.{concerns, only}
 use Rattle.lu_words.specs.Printed.{printed}
 use Rattle.lu_target_rows.specs.Lives.{is_life}
 use Rattle.lu_covered.specs.TargetParts.{is_request_of, without_request, waiting_after}
@@ -23,19 +23,23 @@ use Rattle.lu_covered.specs.TargetStates.{server_of, closed_of, boot_at, waiting
 use Rattle.lu_covered.specs.Heads.{Head}
 use Rattle.lu_laws.specs.Words.Requests.{first_request, asked}
 use Rattle.lu_guards.proofs.Guards.{In, Was, Later, Steps, IsTurnOf}
-use Rattle.lu_guards.proofs.StoryGuards.{IsServing, RangeOk}
-use Rattle.lu_guards.proofs.Acts.{range_acted}
+use Rattle.lu_guards.proofs.StoryGuards.{IsServing, GrantOk, RangeOk, ReportedOk}
+use Rattle.lu_guards.proofs.Acts.{Acted as ActedSo, range_acted, wait_acted, responded, responds_acted, Made as MadeSo}
+use Rattle.lu_guards.proofs.ClientLines.{some_is}
 use Rattle.lu_guards.proofs.Grown.{Allowed, Grown}
 use Rattle.lu_guards.proofs.Lists.{self, in_append, in_filter, turn_trans, turn_irreflexive}
 use Rattle.lu_guards.proofs.Only.{was_back, was_more}
 use Rattle.lu_guards.proofs.Parts.{waiting_is, boot_is}
 use Rattle.lu_facts.proofs.Groups.{turn, Acted, Flew, Counts, Reached}
 use Rattle.lu_facts.proofs.All.{holds}
-use Rattle.lu_facts.proofs.Sides.{acted_only}
-use Rattle.lu_lawful.proofs.Story.{was_to, target_is, grant_either}
-use Rattle.lu_lawful.proofs.Deeds.{act_for}
+use Rattle.lu_facts.proofs.DoneGrows.{did_acted}
+use Rattle.lu_facts.proofs.GrantLines.{grant_either}
+use Rattle.lu_facts.proofs.Lines.{DoneBy, acted_line, done_here}
+use Rattle.lu_facts.proofs.Sides.{IsReported, reported, acted_only}
+use Rattle.lu_lawful.proofs.Story.{was_to, target_is}
+use Rattle.lu_lawful.proofs.Deeds.{act_for, txn_for}
 use Rattle.lu_lawful.proofs.Printed.{first_sent, sent_first}
-use Rattle.lu_lawful.proofs.Facts.{AllAsked}
+use Rattle.lu_lawful.proofs.Facts.{AskedAt, AllAsked}
 
 -- ---- what waits was sent
 
@@ -85,9 +89,24 @@ waits_asked head (l ∷ past) t r g i = by l.at.node l.entry g.0 i (waits_asked 
     by (Target u) (Act d) k i h = acted (Target u) (Act d) d (nat_eq t u) h i
     by (Target u) (Made d) k i h = acted (Target u) (Made d) d (nat_eq t u) h i
     by (Target u) (Grant lock (Some d)) k i h = acted (Target u) (Grant lock (Some d)) d (nat_eq t u) h i
-    by (Target u) (Grant lock None) k i h = absurd k.ok
+    by (Target u) (Grant lock None) k i h = asked_more (line (turn l.at.stamp (Target u)) (Grant lock None)) past t r (h (cond_both (nat_eq t u) (waiting_at t past) (waiting_at t past) (λ (v : List RequestOf). In r v → In r (waiting_at t past)) (λ e j. j) (λ e j. j) i))
+    by (Target u) (Wait lock d) k i h = acted (Target u) (Wait lock d) d (nat_eq t u) h i
+    by (Target u) (Responds d) k i h = acted (Target u) (Responds d) d (nat_eq t u) h i
     by (Client c) (Grant lock asked) k i h = absurd k.ok
+    by (Client c) (Wait lock d) k i h = absurd k.ok
+    by (Client c) (Responds d) k i h = absurd k.ok
     by node e k i h = asked_more (line (turn l.at.stamp node) e) past t r (h i)
+
+-- ---- what is answered without a printed line
+
+-- in this turn, or it is a size that a holder said
+responds_turn : (head : Head) (past : List Line) (stamp : Stamp) (t : ℕ) (d : Deed) → Allowed head past (turn stamp (Target t)) (Responds d) → (d.reply.at ≡ turn stamp (Target t)) ⊎ IsReported d
+responds_turn head past stamp t d k =
+    let r = responded head.osts (only t past) (turn stamp (Target t)) t d (k.of t (self t)).1 in
+    ⊎_elim (λ (w : r.when ≡ turn stamp (Target t)). inl (ap (λ (v : Deed). v.reply.at) r.is ∙ w)) (λ (q : ReportedOk head.osts (only t past) (turn stamp (Target t)) t d). inr (reported head.osts (only t past) (turn stamp (Target t)) t d q)) r.turn
+
+responds_boot : (head : Head) (past : List Line) (stamp : Stamp) (t : ℕ) (d : Deed) → Allowed head past (turn stamp (Target t)) (Responds d) → d.reply.boot ≡ (server_of head.osts (only t past)).boot
+responds_boot head past stamp t d k = ap (λ (v : Deed). v.reply.boot) (responded head.osts (only t past) (turn stamp (Target t)) t d (k.of t (self t)).1).is
 
 -- ---- a turn is of one boot
 
@@ -122,13 +141,24 @@ turn_boot head (l ∷ past) t d g here a now = by l.at.node l.entry g.0 a now (�
     by (Target u) (Act e) k (inl same) n ih = let is = act_for head past l.at.stamp u e k in of_done u e (ap (λ (v : At). v.node) is.turn) is.boot same
     by (Target u) (Act e) k (inr b) n ih = ih b
     by (Client c) (Made e) k a n ih = absurd k.ok
-    by (Target u) (Made e) k (inl same) n ih = let is = (k.of u (self u)).is in of_done u e (ap (λ (v : Deed). v.reply.at.node) is) (ap (λ (v : Deed). v.reply.boot) is) same
+    by (Target u) (Made e) k (inl same) n ih = let is = txn_for head past l.at.stamp u e k in of_done u e (ap (λ (v : At). v.node) is.turn) is.boot same
     by (Target u) (Made e) k (inr b) n ih = ih b
     by (Client c) (Grant lock asked) k a n ih = absurd k.ok
     by (Target u) (Grant lock asked) k (inl q) n ih = ⊎_elim ih
         (λ p. let is = range_acted head.osts (only u past) (turn l.at.stamp (Target u)) lock d p.1 in of_done u d (ap (λ (v : At). v.node) is.turn) is.boot refl)
         (grant_either head past l.at.stamp u lock asked d k q)
     by (Target u) (Grant lock asked) k (inr b) n ih = ih b
+    by (Client c) (Wait lock e) k a n ih = absurd k.ok
+    by (Target u) (Wait lock e) k (inl same) n ih =
+        let is = wait_acted head.osts (only u past) (turn l.at.stamp (Target u)) lock e (k.of u (self u)).1 in of_done u e (ap (λ (v : At). v.node) is.turn) is.boot same
+    by (Target u) (Wait lock e) k (inr b) n ih = ih b
+    by (Client c) (Responds e) k a n ih = absurd k.ok
+    by (Target u) (Responds e) k (inl same) n ih =
+        ⊎_elim
+        (λ (w : e.reply.at ≡ turn l.at.stamp (Target u)). of_done u e (ap (λ (v : At). v.node) w) (responds_boot head past l.at.stamp u e k) same)
+        (λ (r : IsReported e). absurd (let q : Client r.client ≡ Target t = sym r.node ∙ ap (λ (v : Deed). v.reply.at.node) same ∙ here in cc))
+        (responds_turn head past l.at.stamp u e k)
+    by (Target u) (Responds e) k (inr b) n ih = ih b
     by (Client c) (Boot boot disk) k a n ih = absurd k.ok
     by (Target u) (Boot boot disk) k a n ih = boots past (turn l.at.stamp (Target u)) u boot n k.ok (before a)
     by node e k a n ih = ih a
@@ -156,7 +186,7 @@ pub record DoesNow (head : Head) (past : List Line) (at : At) (d : Deed) : Type 
   pub new : NoneFor head past target d.reply.who d.reply.xid.0
   pub now : NoneNow head past at d.reply.who d.reply.xid.0
 
-does : (head : Head) (past : List Line) (at : At) (t : ℕ) (d : Deed) (r : RequestOf) → Grown head past → Steps past at → at.node ≡ Target t → d.reply.at ≡ at → IsServing head.osts (only t past)
+pub does : (head : Head) (past : List Line) (at : At) (t : ℕ) (d : Deed) (r : RequestOf) → Grown head past → Steps past at → at.node ≡ Target t → d.reply.at ≡ at → IsServing head.osts (only t past)
     → In r (server_of head.osts (only t past)).waiting
     → r.who ≡ d.reply.who → r.xid ≡ d.reply.xid → r.op ≡ d.op → r.tag ≡ d.tag → DoesNow head past at d
 does head past at t d r g steps here when serves i w x o k =
@@ -194,9 +224,8 @@ act_now head past stamp (Target t) d k g =
 pub txn_now : (head : Head) (past : List Line) (stamp : Stamp) (node : Node) (d : Deed) → Allowed head past (turn stamp node) (Made d) → Grown head past → DoesNow head past (turn stamp node) d
 txn_now head past stamp (Client c) d k g = absurd k.ok
 txn_now head past stamp (Target t) d k g =
-    let ok = k.of t (self t) in
-    does head past (turn stamp (Target t)) t d ok.request g k.steps refl (ap (λ (v : Deed). v.reply.at) ok.is) ok.serves ok.waits (ap (λ (v : Deed). v.reply.who) (sym ok.is))
-    (ap (λ (v : Deed). v.reply.xid) (sym ok.is)) (ap (λ (v : Deed). v.op) (sym ok.is)) (ap (λ (v : Deed). v.tag) (sym ok.is))
+    let ok = txn_for head past stamp t d k in
+    does head past (turn stamp (Target t)) t d ok.request g k.steps refl ok.turn ok.serves ok.waits (sym ok.who) (sym ok.xid) (sym ok.of_op) (sym ok.tag)
 
 -- what a lock that is shown is of was done before, or now, at an object storage target
 pub grant_now : (head : Head) (past : List Line) (stamp : Stamp) (node : Node) (lock : Lock) (asked : Option Deed) (d : Deed) → Allowed head past (turn stamp node) (Grant lock asked) → asked ≡ Some d → Grown head past
@@ -216,10 +245,72 @@ granted_first head past stamp node lock asked d k q g first = ⊎_elim (λ (a : 
     apart : (t : ℕ) → Target t ≡ Target 0 → 0 < t → ⊥
     apart t e high = let zero = target_is t 0 e in omega (arith, zero, high)
 
--- transactions are the metadata target's
-pub txn_first : (head : Head) (past : List Line) (stamp : Stamp) (node : Node) (d : Deed) → Allowed head past (turn stamp node) (Made d) → node ≡ Target 0
-txn_first head past stamp (Client c) d k = absurd k.ok
-txn_first head past stamp (Target t) d k = ap Target k.ok
+-- who asks for a lock is told to wait
+pub wait_now : (head : Head) (past : List Line) (stamp : Stamp) (node : Node) (lock : Lock) (d : Deed) → Allowed head past (turn stamp node) (Wait lock d) → Grown head past → DoesNow head past (turn stamp node) d
+wait_now head past stamp (Client c) lock d k g = absurd k.ok
+wait_now head past stamp (Target t) lock d k g =
+    let ok = wait_acted head.osts (only t past) (turn stamp (Target t)) lock d (k.of t (self t)).1 in
+    does head past (turn stamp (Target t)) t d ok.request g k.steps refl ok.turn ok.serves ok.waits (sym ok.who) (sym ok.xid) (sym ok.of_op) (sym ok.tag)
+
+-- what is answered without a printed line, but for a size that a holder said
+pub responds_now : (head : Head) (past : List Line) (stamp : Stamp) (node : Node) (d : Deed) → Allowed head past (turn stamp node) (Responds d) → Grown head past → DoesNow head past (turn stamp node) d ⊎ IsReported d
+responds_now head past stamp (Client c) d k g = absurd k.ok
+responds_now head past stamp (Target t) d k g =
+    let r = responded head.osts (only t past) (turn stamp (Target t)) t d (k.of t (self t)).1 in
+    let ok = responds_acted head.osts (only t past) (turn stamp (Target t)) t d r in
+    ⊎_elim
+    (λ (w : d.reply.at ≡ turn stamp (Target t)). inl (does head past (turn stamp (Target t)) t d ok.request g k.steps refl w ok.serves ok.waits (sym ok.who) (sym ok.xid) (sym ok.of_op) (sym ok.tag)))
+    (λ (q : IsReported d). inr q)
+    (responds_turn head past stamp t d k)
+
+-- neither is done by the metadata target
+pub wait_high : (head : Head) (past : List Line) (stamp : Stamp) (node : Node) (lock : Lock) (d : Deed) → Allowed head past (turn stamp node) (Wait lock d) → Grown head past → d.reply.at.node ≡ Target 0 → ⊥
+wait_high head past stamp (Client c) lock d k g first = absurd k.ok
+wait_high head past stamp (Target t) lock d k g first =
+    let high = k.ok.0 in
+    let zero = target_is t 0 (ap (λ (v : At). v.node) (sym (wait_now head past stamp (Target t) lock d k g).turn) ∙ first) in
+    absurd (omega (arith, high, zero))
+
+pub responds_high : (head : Head) (past : List Line) (stamp : Stamp) (node : Node) (d : Deed) → Allowed head past (turn stamp node) (Responds d) → Grown head past → d.reply.at.node ≡ Target 0 → ⊥
+responds_high head past stamp (Client c) d k g first = absurd k.ok
+responds_high head past stamp (Target t) d k g first = ⊎_elim
+    (λ (now : DoesNow head past (turn stamp (Target t)) d).
+    let high = k.ok.0 in
+    let zero = target_is t 0 (ap (λ (v : At). v.node) (sym now.turn) ∙ first) in
+    absurd (omega (arith, high, zero)))
+    (λ (r : IsReported d). absurd (let other : Client r.client ≡ Target 0 = sym r.node ∙ first in cc))
+    (responds_now head past stamp (Target t) d k g)
+
+-- whatever is done in that turn
+pub done_now : (head : Head) (past : List Line) (stamp : Stamp) (node : Node) (e : Entry) (d : Deed) → Allowed head past (turn stamp node) e → Grown head past → DoneBy e d → Acted past d ⊎ DoesNow head past (turn stamp node) d ⊎ IsReported d
+done_now head past stamp node (Act x) d k g p = inr (inl (subst (DoesNow head past (turn stamp node)) p (act_now head past stamp node x k g)))
+done_now head past stamp node (Made x) d k g p = inr (inl (subst (DoesNow head past (turn stamp node)) p (txn_now head past stamp node x k g)))
+done_now head past stamp node (Grant lock asked) d k g p = ⊎_elim (λ (a : Acted past d). inl a) (λ q. inr (inl q.1)) (grant_now head past stamp node lock asked d k p g)
+done_now head past stamp node (Wait lock x) d k g p = inr (inl (subst (DoesNow head past (turn stamp node)) p (wait_now head past stamp node lock x k g)))
+done_now head past stamp node (Responds x) d k g p = inr (subst (λ (v : Deed). DoesNow head past (turn stamp node) v ⊎ IsReported v) p (responds_now head past stamp node x k g))
+done_now head past stamp node e d k g p = absurd p
+
+-- it was asked for
+done_sent : (head : Head) (past : List Line) (stamp : Stamp) (t : ℕ) (e : Entry) (d : Deed) → Allowed head past (turn stamp (Target t)) e → Grown head past → DoneBy e d → Acted (only t past) d ⊎ SentFor past t d
+done_sent head past stamp t e d k g p = by e k p
+  where
+    now : (r : RequestOf) → In r (server_of head.osts (only t past)).waiting → d.reply.who ≡ r.who → d.reply.xid ≡ r.xid → d.op ≡ r.op → d.tag ≡ r.tag → SentFor past t d
+    now r i w x o n = (r, waits_asked head past t r g (subst (λ (v : List RequestOf). In r v) (sym (waiting_is head.osts t past)) i), sym w, sym x, sym o, sym n)
+
+    acts : {at : At} (x : Deed) → x ≡ d → ActedSo head.osts (only t past) at x → SentFor past t d
+    acts x q ok = let k = subst (ActedSo head.osts (only t past) _) q ok in now k.request k.waits k.who k.xid k.of_op k.tag
+
+    by : (e : Entry) → Allowed head past (turn stamp (Target t)) e → DoneBy e d → Acted (only t past) d ⊎ SentFor past t d
+    by (Act x) k p = inr (acts x p (act_for head past stamp t x k))
+    by (Made x) k p = inr (let ok = subst (MadeSo head.osts (only t past) (turn stamp (Target t))) p (txn_for head past stamp t x k) in now ok.request ok.waits ok.who ok.xid ok.of_op ok.tag)
+    by (Grant lock (Some x)) k p = ⊎_elim
+        (λ (q : (t ≡ 0) × GrantOk head.osts (only t past) lock x). inl (subst (Acted (only t past)) (some_is x d p) (did_acted (only t past) x q.1.did)))
+        (λ (q : (0 < t) × RangeOk head.osts (only t past) (turn stamp (Target t)) lock x). inr (acts x (some_is x d p) (range_acted head.osts (only t past) (turn stamp (Target t)) lock x q.1)))
+        (k.of t (self t))
+    by (Grant lock None) k p = absurd (cc)
+    by (Wait lock x) k p = inr (acts x p (wait_acted head.osts (only t past) (turn stamp (Target t)) lock x (k.of t (self t)).1))
+    by (Responds x) k p = inr (acts x p (responds_acted head.osts (only t past) (turn stamp (Target t)) t x (responded head.osts (only t past) (turn stamp (Target t)) t x (k.of t (self t)).1)))
+    by e k p = absurd p
 
 -- ---- the operation of a number
 
@@ -242,8 +333,39 @@ first_is head past t d g s =
 pub asked_is : (head : Head) (past : List Line) (t : ℕ) (d : Deed) → Grown head past → SentFor past t d → asked (printed past) t d.reply.who d.reply.xid.0 ≡ Some d.op
 asked_is head past t d g s = let k = first_is head past t d g s in ap (λ (v : Option RequestOf). option_map (λ (r : RequestOf). r.op) v) k.1 ∙ ap (λ (v : Op). Some v) k.2
 
--- what that target does
-asked_there : (head : Head) (past : List Line) (at : At) (t : ℕ) (d : Deed) → Grown head past → DoesNow head past at d → at.node ≡ Target t → asked (printed past) t d.reply.who d.reply.xid.0 ≡ Some d.op
+-- ---- what was done was asked for
+
+sent_more : (l : Line) (past : List Line) (t : ℕ) (d : Deed) → SentFor past t d → SentFor (l ∷ past) t d
+sent_more l past t d s = (s.0, asked_more l past t s.0 s.1, s.2, s.3, s.4, s.5)
+
+pub acted_sent : (head : Head) (past : List Line) (t : ℕ) (d : Deed) → Grown head past → Acted (only t past) d → SentFor past t d
+acted_sent head [] t d g a = absurd a
+acted_sent head (l ∷ past) t d g a =
+    sent_more l past t d
+    (cond_both (concerns t l.at.node l.entry) (l ∷ only t past) (only t past) (λ (p : List Line). Acted p d → SentFor past t d)
+    (λ o b. by l.at.node l.entry g.0 o b (acted_sent head past t d g.1))
+    (λ o b. acted_sent head past t d g.1 b)
+    a)
+  where
+    by : (node : Node) (e : Entry) → Allowed head past (turn l.at.stamp node) e → concerns t node e ≡ true → Acted (line (turn l.at.stamp node) e ∷ only t past) d → (Acted (only t past) d → SentFor past t d) → SentFor past t d
+    by node e k o a ih = ⊎_elim
+        (λ (p : DoneBy e d).
+        let here = done_here head past l.at.stamp node e k.ok k.of k.owes d p in
+        let same = of_target here.0 (subst (λ (n : Node). concerns t n e ≡ true) here.1 o) e p in
+        ⊎_elim ih (λ (s : SentFor past t d). s)
+        (subst (λ (u : ℕ). Acted (only u past) d ⊎ SentFor past u d) (sym same) (done_sent head past l.at.stamp here.0 e d (subst (λ (n : Node). Allowed head past (turn l.at.stamp n) e) here.1 k) g.1 p)))
+        ih
+        (acted_line (turn l.at.stamp node) e (only t past) d a)
+      where
+        of_target : (u : ℕ) → concerns t (Target u) e ≡ true → (x : Entry) → DoneBy x d → t ≡ u
+        of_target u o x p = eqb-true t u o
+
+-- the operation of its number is its own
+pub asked_of : (head : Head) (past : List Line) (t : ℕ) (d : Deed) → Grown head past → Acted (only t past) d → AskedAt t past d
+asked_of head past t d g a = asked_is head past t d g (acted_sent head past t d g a)
+
+-- what a target does now
+pub asked_there : (head : Head) (past : List Line) (at : At) (t : ℕ) (d : Deed) → Grown head past → DoesNow head past at d → at.node ≡ Target t → AskedAt t past d
 asked_there head past at t d g does here = asked_is head past t d g (subst (λ (v : ℕ). SentFor past v d) (target_is does.target t (sym does.here ∙ here)) does.sent)
 
 pub all_asked : (head : Head) (past : List Line) → Grown head past → AllAsked past
@@ -251,33 +373,6 @@ all_asked head [] g = tt
 all_asked head (l ∷ past) g = by l.entry g.0 (all_asked head past g.1)
   where
     by : (e : Entry) → Allowed head past l.at e → AllAsked past → AllAsked (line l.at e ∷ past)
-    by (Act d) k h = (λ first. asked_there head past l.at 0 d g.1 (act_now head past l.at.stamp l.at.node d k g.1) first, h)
-    by (Made d) k h = (asked_there head past l.at 0 d g.1 (txn_now head past l.at.stamp l.at.node d k g.1) (txn_first head past l.at.stamp l.at.node d k), h)
+    by (Act d) k h = (λ t here. asked_there head past l.at t d g.1 (act_now head past l.at.stamp l.at.node d k g.1) here, h)
+    by (Made d) k h = (λ t here. asked_there head past l.at t d g.1 (txn_now head past l.at.stamp l.at.node d k g.1) here, h)
     by _ k h = h
-
--- ---- what was done was asked for
-
-sent_more : (l : Line) (past : List Line) (t : ℕ) (d : Deed) → SentFor past t d → SentFor (l ∷ past) t d
-sent_more l past t d s = (s.0, asked_more l past t s.0 s.1, s.2, s.3, s.4, s.5)
-
-pub acted_sent : (head : Head) (past : List Line) (t : ℕ) (d : Deed) → Grown head past → d.reply.at.node ≡ Target t → Acted past d → SentFor past t d
-acted_sent head [] t d g at a = absurd a
-acted_sent head (l ∷ past) t d g at a = by l.entry g.0 (acted_sent head past t d g.1 at) a
-  where
-    does_it : (e : Deed) → DoesNow head past l.at e → e ≡ d → SentFor past t d
-    does_it e does p =
-        let same : does.target ≡ t = target_is does.target t (sym does.here ∙ ap (λ (v : At). v.node) (sym does.turn) ∙ ap (λ (v : Deed). v.reply.at.node) p ∙ at) in
-        subst (SentFor past t) p (subst (λ (v : ℕ). SentFor past v e) same does.sent)
-
-    by : (e : Entry) → Allowed head past l.at e → (Acted past d → SentFor past t d) → Acted (line l.at e ∷ past) d → SentFor (line l.at e ∷ past) t d
-    by (Act e) k h a = ⊎_elim
-        (λ (p : e ≡ d). sent_more (line l.at (Act e)) past t d (does_it e (act_now head past l.at.stamp l.at.node e k g.1) p))
-        (λ (p : Acted past d). sent_more (line l.at (Act e)) past t d (h p))
-        a
-    by (Made e) k h a = ⊎_elim
-        (λ (p : e ≡ d). sent_more (line l.at (Made e)) past t d (does_it e (txn_now head past l.at.stamp l.at.node e k g.1) p))
-        (λ (p : Acted past d). sent_more (line l.at (Made e)) past t d (h p))
-        a
-    by (Grant lock asked) k h (inl q) = sent_more (line l.at (Grant lock asked)) past t d (⊎_elim h (λ p. does_it d p.1 refl) (grant_now head past l.at.stamp l.at.node lock asked d k q g.1))
-    by (Grant lock asked) k h (inr b) = sent_more (line l.at (Grant lock asked)) past t d (h b)
-    by e k h a = sent_more (line l.at e) past t d (h a)

@@ -10,6 +10,7 @@ use Rattle.lu_base.specs.declared.ids.Stamp.{Stamp}
 use Rattle.lu_base.specs.declared.ids.TargetId.{TargetId}
 use Rattle.lu_base.specs.declared.ids.Who.{Who}
 use Rattle.lu_base.specs.declared.locks.Lock.{Lock}
+use Rattle.lu_msg.specs.declared.messages.GrantNotice.{GrantNotice}
 use Rattle.lu_msg.specs.declared.messages.Message.{Message}
 use Rattle.lu_msg.specs.declared.messages.Message.TheVariants as message
 use Rattle.lu_msg.specs.declared.messages.Reply.{Reply as ReplyTo}
@@ -28,8 +29,8 @@ use Rattle.lu_covered.specs.ClientStates.{known_of, standing_of, life_of}
 use Rattle.lu_covered.specs.Imports.{Joining, Recovering, Serving, kept_at, known_at, standing_at}
 use Rattle.lu_covered.specs.TargetStates.{server_of, closed_of}
 use Rattle.lu_covered.specs.Heads.{Head}
-use Rattle.lu_guards.proofs.Guards.{Was, HeardNow, Noticed, Ending, Closes, MarkedOk}
-use Rattle.lu_guards.proofs.StoryGuards.{HeardOk, EntryOf}
+use Rattle.lu_guards.proofs.Guards.{Was, Noticed, Ending, Closes, MarkedOk}
+use Rattle.lu_guards.proofs.StoryGuards.{HeardOk, HeldOk, GivenOf, SettlesOk, EntryOf}
 use Rattle.lu_guards.proofs.Grown.{Allowed, Grown}
 use Rattle.lu_guards.proofs.Lists.{self}
 use Rattle.lu_guards.proofs.Parts.{known_is, standing_is, life_is_of}
@@ -191,30 +192,6 @@ closed_up head t l past g = by (concerns t l.at.node l.entry) refl
     by true e = own l.at.node l.entry (g.0.of t e)
     by false e = omega arith
 
--- in the turn that brought a lock the client knows a boot that was served
-heard_served : (head : Head) (past : List Line) (at : At) (c t : ℕ) (f : Flight) (r : ReplyTo) → Grown head past → at.node ≡ Client c → HeardNow past at t f r → known_at c t past ≤ closed_of (only t past)
-heard_served head [] at c t f r g n k = absurd k
-heard_served head (l ∷ past) at c t f r g n k = by l.at.node l.entry g k (λ k. heard_served head past at c t f r g.1 n k)
-  where
-    here : (stamp : Stamp) (u : ℕ) (x : Flight) (y : ReplyTo) → Allowed head past (turn stamp (Client c)) (Heard u x y) → u ≡ t → known_at c t past ≤ closed_of (only t past)
-    here stamp u x y a e =
-        let ok = a.of t (subst (λ (v : ℕ). nat_eq t v ≡ true) (sym e) (self t)) in
-        at_most _ _ _ (known_is c t past) (hears_served head t past c x y g.1 ok)
-
-    on : (node : Node) (e : Entry) → Grown head (line (turn l.at.stamp node) e ∷ past) → known_at c t past ≤ closed_of (only t past) → known_at c t past ≤ closed_of (only t (line (turn l.at.stamp node) e ∷ past))
-    on node e g le = let up = closed_up head t (line (turn l.at.stamp node) e) past g in omega (arith, le, up)
-
-    by : (node : Node) (e : Entry) → Grown head (line (turn l.at.stamp node) e ∷ past) → HeardNow (line (turn l.at.stamp node) e ∷ past) at t f r → (HeardNow past at t f r → known_at c t past ≤ closed_of (only t past))
-        → known_at c t (line (turn l.at.stamp node) e ∷ past) ≤ closed_of (only t (line (turn l.at.stamp node) e ∷ past))
-    by (Client d) (Heard u x y) g k h =
-        let own : Client d ≡ Client c = ap (λ (v : At). v.node) k.0 ∙ n in
-        let same : d ≡ c = cc in
-        on (Client d) (Heard u x y) g (here l.at.stamp u x y (subst (λ (v : ℕ). Allowed head past (turn l.at.stamp (Client v)) (Heard u x y)) same g.0) k.1)
-    by (Target d) (Heard u x y) g k h = absurd g.0.ok
-    by (Client d) (Hold u lock marked size seen) g k h = on (Client d) (Hold u lock marked size seen) g (h k)
-    by (Target d) (Hold u lock marked size seen) g k h = absurd g.0.ok
-    by node e g k h = absurd k
-
 -- a line of the client, about the target or not
 still_other : (c t : ℕ) (l : Line) (past : List Line) → life_at c (l ∷ past) ≡ life_at c past → known_at c t (l ∷ past) ≡ known_at c t past → standing_at c t (l ∷ past) ≡ standing_at c t past → kept_at c t (l ∷ past) ≡ kept_at c t past
     → count t (held_at c (l ∷ past)) ≡ count t (held_at c past) → Moves c t past (l ∷ past)
@@ -224,6 +201,10 @@ still_other c t l past life known standing kept locks = inl (record { life = lif
 module _ (head : Head) (t c : ℕ) (past : List Line) (stamp : Stamp) (d u : ℕ) (g : Grown head past) where
   known_same : c ≡ d → known_at c t past ≡ known_of d (only t past)
   known_same e = known_is c t past ∙ ap (λ (v : ℕ). known_of v (only t past)) e
+
+  -- nor of a boot in which no lock was granted
+  granted_served : (n : GrantNotice) → Was (only t past) (Target u) (Client d) (message.Grant n) → n.boot ≡ known_of d (only t past) → known_of d (only t past) ≤ closed_of (only t past)
+  granted_served n was e = subst (λ (b : ℕ). b ≤ closed_of (only t past)) e (((holds head past g).at t).done.sent (Target u) (Client d) (message.Grant n) was).boot
 
   moves_knows : (b : ℕ) → Allowed head past (turn stamp (Client d)) (Knows u b) → Moves c t past (line (turn stamp (Client d)) (Knows u b) ∷ past)
   moves_knows b a = by (nat_eq c d) (nat_eq t u) refl refl
@@ -260,8 +241,12 @@ module _ (head : Head) (t c : ℕ) (past : List Line) (stamp : Stamp) (d u : ℕ
       l : Line
       l = line (turn stamp (Client d)) (Settles u b)
 
+      low : SettlesOk (only t past) d u b → known_of d (only t past) ≤ closed_of (only t past)
+      low (inl k) = ((holds head past g).at t).phase.served d k.serves
+      low (inr k) = granted_served k.notice k.was k.boot
+
       by : (x y : Bool) → nat_eq c d ≡ x → nat_eq t u ≡ y → Moves c t past (l ∷ past)
-      by true true p q = inr (inr (inl (record { life = refl; known = refl; low = at_most _ _ _ (known_same (eqb-true c d p)) (((holds head past g).at t).phase.served d (a.of t q).serves) })))
+      by true true p q = inr (inr (inl (record { life = refl; known = refl; low = at_most _ _ _ (known_same (eqb-true c d p)) (low (a.of t q)) })))
       by true false p q = still_other c t l past refl refl refl (rw (p, q) refl) refl
       by false y p q = still_other c t l past refl refl refl (rw p refl) refl
 
@@ -296,8 +281,12 @@ module _ (head : Head) (t c : ℕ) (past : List Line) (stamp : Stamp) (d u : ℕ
       l : Line
       l = line (turn stamp (Client d)) (Hold u lock marked size seen)
 
+      low : ((marked ≡ false) × HeldOk (only t past) d u lock seen) ⊎ GivenOf (only t past) d u lock seen → known_of d (only t past) ≤ closed_of (only t past)
+      low (inl k) = ((holds head past g).at t).recovers.hears k.1.at d u k.1.flight k.1.reply k.1.here k.1.heard
+      low (inr k) = granted_served k.notice k.was k.boot
+
       by : (x y : Bool) → nat_eq c d ≡ x → nat_eq t u ≡ y → Moves c t past (l ∷ past)
-      by true true p q = inr (inr (inl (record { life = refl; known = refl; low = subst (λ (v : ℕ). known_at c v past ≤ closed_of (only v past)) (sym (eqb-true t u q)) (heard_served head past (turn stamp (Client d)) c u a.ok.flight a.ok.reply g (ap Client (sym (eqb-true c d p))) a.ok.heard) })))
+      by true true p q = inr (inr (inl (record { life = refl; known = refl; low = at_most _ _ _ (known_same (eqb-true c d p)) (low (a.of t q)) })))
       by true false p q = still_other c t l past refl refl refl (rw (p, q) refl) (rw p (count_with t (held_as u lock marked) (held_at c past) (flip u t ∙ q)))
       by false y p q = still_other c t l past refl refl refl (rw p refl) (rw p refl)
 

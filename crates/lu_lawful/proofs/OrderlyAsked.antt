@@ -16,7 +16,7 @@ use Rattle.lu_msg.specs.declared.messages.Request.{Request as RequestOf}
 use Rattle.lu_trace.specs.declared.entries.Line.{Line as PrintedLine}
 use Rattle.lu_machine.specs.Tree.{same_life}
 use Rattle.lu_words.specs.Carried.{Deed, Disk, Outcome}
-use Rattle.lu_words.specs.Words.{Entry, Send, Take, Act, Txn as Made, Grant, Crash, Boot, Close, Evict, Enters, Line, line}
+use Rattle.lu_words.specs.Words.{Entry, Send, Take, Act, Txn as Made, Grant, Wait, Answers, Crash, Boot, Close, Evict, Enters, Line, line}
 use Rattle.lu_words.specs.Concerns.{concerns, only}
 use Rattle.lu_words.specs.Printed.{printed}
 use Rattle.lu_target_rows.specs.Lives.{is_life}
@@ -37,7 +37,7 @@ use Rattle.lu_guards.proofs.Lists.{self, in_append, in_filter, in_filtered, life
 use Rattle.lu_guards.proofs.Parts.{waiting_is}
 use Rattle.lu_facts.proofs.Groups.{turn, Phase}
 use Rattle.lu_facts.proofs.All.{holds}
-use Rattle.lu_lawful.proofs.Deeds.{act_for}
+use Rattle.lu_lawful.proofs.Deeds.{act_for, txn_for}
 use Rattle.lu_lawful.proofs.Lines.{Keeps, holds_before}
 use Rattle.lu_lawful.proofs.KeptReplies.{replied_acted}
 use Rattle.lu_lawful.proofs.Printed.{flip, sending_is}
@@ -170,6 +170,10 @@ module _ (u : ℕ) where
       cond_both (is_target u (Target t)) (unanswered u (printed past)) (unanswered u (printed past)) (λ (v : List RequestOf). In r v) (λ e. h r i) (λ e. h r i)
   keeps_unanswered head past stamp (Target t) (Send (Client c) (message.Up b)) a g s h r i =
       cond_both (is_target u (Target t)) (unanswered u (printed past)) (unanswered u (printed past)) (λ (v : List RequestOf). In r v) (λ e. h r i) (λ e. h r i)
+  keeps_unanswered head past stamp (Target t) (Send (Client c) (message.Grant n)) a g s h r i =
+      cond_both (is_target u (Target t)) (unanswered u (printed past)) (unanswered u (printed past)) (λ (v : List RequestOf). In r v) (λ e. h r i) (λ e. h r i)
+  keeps_unanswered head past stamp (Target t) (Send (Client c) (message.Ask who b cookie for_who x)) a g s h r i =
+      cond_both (is_target u (Target t)) (unanswered u (printed past)) (unanswered u (printed past)) (λ (v : List RequestOf). In r v) (λ e. h r i) (λ e. h r i)
   keeps_unanswered head past stamp (Target t) (Send to m) a g s h r i = absurd a.ok
   keeps_unanswered head past stamp (Client c) (Enters q) a g s h r i = absurd a.ok
   keeps_unanswered head past stamp (Target t) (Enters q) a g s h r i =
@@ -185,8 +189,12 @@ module _ (u : ℕ) where
   keeps_unanswered head past stamp (Target t) (Act d) a g s h r i = acted_fewer past (turn stamp (Target t)) (Act d) d (nat_eq u t) r h i
   keeps_unanswered head past stamp (Target t) (Made d) a g s h r i = acted_fewer past (turn stamp (Target t)) (Made d) d (nat_eq u t) r h i
   keeps_unanswered head past stamp (Client c) (Grant lock asked) a g s h r i = absurd a.ok
-  keeps_unanswered head past stamp (Target t) (Grant lock None) a g s h r i = absurd a.ok
+  keeps_unanswered head past stamp (Target t) (Grant lock None) a g s h r i = cond_both (nat_eq u t) (waiting_at u past) (waiting_at u past) (λ (v : List RequestOf). In r v → Unanswered past r) (λ e j. h r j) (λ e j. h r j) i
   keeps_unanswered head past stamp (Target t) (Grant lock (Some d)) a g s h r i = acted_fewer past (turn stamp (Target t)) (Grant lock (Some d)) d (nat_eq u t) r h i
+  keeps_unanswered head past stamp (Client c) (Wait lock d) a g s h r i = absurd a.ok
+  keeps_unanswered head past stamp (Target t) (Wait lock d) a g s h r i = acted_fewer past (turn stamp (Target t)) (Wait lock d) d (nat_eq u t) r h i
+  keeps_unanswered head past stamp (Client c) (Answers d) a g s h r i = absurd a.ok
+  keeps_unanswered head past stamp (Target t) (Answers d) a g s h r i = acted_fewer past (turn stamp (Target t)) (Answers d) d (nat_eq u t) r h i
   keeps_unanswered head past stamp (Client c) (Boot b disk) a g s h r i = absurd a.ok
   keeps_unanswered head past stamp (Target t) (Boot b disk) a g s h r i = booted (nat_eq u t) refl s
     where
@@ -251,8 +259,8 @@ requests_at head past l later a g = by l.at.node l.entry a
         let ok = act_for head past l.at.stamp t d k in
         acts_asked t head past d ok.request g ok.serves ok.waits (sym ok.who) (sym ok.xid)
     by (Target t) (Made d) k =
-        let ok = k.of t (self t) in
-        acts_asked t head past d ok.request g ok.serves ok.waits (ap (λ (v : Deed). v.reply.who) (sym ok.is)) (ap (λ (v : Deed). v.reply.xid) (sym ok.is))
+        let ok = txn_for head past l.at.stamp t d k in
+        acts_asked t head past d ok.request g ok.serves ok.waits (sym ok.who) (sym ok.xid)
     by _ _ k = tt
 
 pub requests : (head : Head) (past : List Line) → Grown head past → Holds Requests (printed past)

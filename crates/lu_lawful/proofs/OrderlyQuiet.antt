@@ -1,5 +1,4 @@
--- What every run keeps of crashes and boots, that what only a serving target does stands where it serves, and of waits, which no covered run
--- has.
+-- What every run keeps of crashes and boots, and that what only a serving target does stands where it serves.
 use Rattle.std.proofs.Common.{◌≡◌, ℕ, ◌+◌, ◌<◌, Bool, true, false, List, [], ◌∷◌, Option, Some, None, inl, inr, ⊎_elim, refl, sym, subst, ap, ◌∙◌, arith}
 use Rattle.std.specs.Prelude.{nat_eq, if◌then◌else◌, unwrap_or}
 use Rattle.std.proofs.lemmas.Bool.{eq-eqb}
@@ -9,7 +8,7 @@ use Rattle.lu_base.specs.declared.ids.Node.{Node}
 use Rattle.lu_base.specs.declared.ids.Node.TheVariants.{Client, Target}
 use Rattle.lu_trace.specs.declared.entries.Line.{Line as PrintedLine}
 use Rattle.lu_words.specs.Carried.{Deed, Outcome}
-use Rattle.lu_words.specs.Words.{Entry, Act, Txn as Made, Grant, Wait, Block, Release, Crash, Boot, Close, Line, line}
+use Rattle.lu_words.specs.Words.{Entry, Act, Txn as Made, Grant, Wait, Answers as Responds, Block, Release, Crash, Boot, Close, Line, line}
 use Rattle.lu_words.specs.Concerns.{concerns, only}
 use Rattle.lu_words.specs.Sent.{count_sent}
 use Rattle.lu_words.specs.Printed.{printed_entry, printed}
@@ -20,10 +19,9 @@ use Rattle.lu_laws.specs.Words.Pasts.{Past, or_else, newest}
 use Rattle.lu_laws.specs.Order.Phases.{Phase, IsDown, Recovers, Serves, turns_to, phase, is_serving, is_down, serves}
 use Rattle.lu_laws.specs.Order.Serving.{Serving}
 use Rattle.lu_laws.specs.Order.Boots.{Boots}
-use Rattle.lu_laws.specs.Order.Waits.{Waits}
 use Rattle.lu_guards.proofs.Guards.{Did, EntryOk}
-use Rattle.lu_guards.proofs.StoryGuards.{IsServing, GrantOk, RangeOk, CloseOk, EntryOf}
-use Rattle.lu_guards.proofs.Acts.{acted}
+use Rattle.lu_guards.proofs.StoryGuards.{IsServing, TxnsOk, GrantOk, RangeOk, BlockOk, WayOk, CloseOk, EntryOf}
+use Rattle.lu_guards.proofs.Acts.{acted, responded, responds_acted}
 use Rattle.lu_guards.proofs.Grown.{Allowed, Grown, GrownOf}
 use Rattle.lu_guards.proofs.Lists.{self}
 use Rattle.lu_guards.proofs.Only.{grown_of}
@@ -94,19 +92,32 @@ phase_is head t (l ∷ past) g = by l.at.node l.entry g.0.ok g.0.of (phase_is he
 it_serves : (head : Head) (t : ℕ) (past : List Line) → Grown head past → IsServing head.osts (only t past) → serves (printed past) (Target t) ≡ true
 it_serves head t past g s = ap is_serving (phase_is head t past g ∙ ap (λ (b : Bool). stands_as b (nat_eq (closed_of (only t past)) (server_of head.osts (only t past)).boot)) s.up ∙ ap (stands_as true) (eq-eqb (closed_of (only t past)) (server_of head.osts (only t past)).boot s.closed))
 
--- a lock is granted as the target acts
+-- what makes a transaction serves
+txns_serve : (osts : ℕ) (past : List Line) (at : At) (t : ℕ) (d : Deed) → TxnsOk osts past at t d → IsServing osts past
+txns_serve osts past at t d (inl ok) = ok.1.serves
+txns_serve osts past at t d (inr ok) = ok.1.serves
+
+-- a lock is shown as the target acts
 did_serves : (head : Head) (past : List Line) (d : Deed) → GrownOf head past → Did past d → IsServing head.osts past
 did_serves head [] d g i = absurd i
 did_serves head (l ∷ past) d g i = by l.at.node l.entry g.0 i (did_serves head past d g.3)
   where
+    on : (node : Node) (e : Entry) → IsServing head.osts past → (closed_of (line (turn l.at.stamp node) e ∷ past) ≡ closed_of past) → (server_of head.osts (line (turn l.at.stamp node) e ∷ past)).boot ≡ (server_of head.osts past).boot
+        → up_of (line (turn l.at.stamp node) e ∷ past) ≡ up_of past → IsServing head.osts (line (turn l.at.stamp node) e ∷ past)
+    on node e s closed boot up = record { closed = closed ∙ s.closed ∙ sym boot; up = up ∙ s.up }
+
     by : (node : Node) (e : Entry) → EntryOf head past (turn l.at.stamp node) node e → Did (line (turn l.at.stamp node) e ∷ past) d → (Did past d → IsServing head.osts past) → IsServing head.osts (line (turn l.at.stamp node) e ∷ past)
-    by (Target t) (Act x) ok i h = (acted head.osts past (turn l.at.stamp (Target t)) t x ok).serves
-    by (Target t) (Made x) ok i h = ok.serves
-    by (Target t) (Grant lock None) ok i h = absurd ok
-    by (Target t) (Grant lock (Some x)) (inl ok) i h = let s = h (subst (λ (y : Deed). Did past y) (some_is x d i) ok.1.did) in record { up = s.up; closed = s.closed }
-    by (Target t) (Grant lock (Some x)) (inr ok) i h = let s = ok.1.serves in record { up = s.up; closed = s.closed }
+    by (Target t) (Act x) ok i h = on (Target t) (Act x) (acted head.osts past (turn l.at.stamp (Target t)) t x ok).serves refl refl refl
+    by (Target t) (Made x) ok i h = on (Target t) (Made x) (txns_serve head.osts past (turn l.at.stamp (Target t)) t x ok) refl refl refl
+    by (Target t) (Wait lock x) ok i h = on (Target t) (Wait lock x) ok.1.serves refl refl refl
+    by (Target t) (Responds x) ok i h = on (Target t) (Responds x) (responds_acted head.osts past (turn l.at.stamp (Target t)) t x (responded head.osts past (turn l.at.stamp (Target t)) t x ok.1)).serves refl refl refl
+    by (Target t) (Grant lock None) ok i h = absurd (cc)
+    by (Target t) (Grant lock (Some x)) (inl ok) i h = on (Target t) (Grant lock (Some x)) (h (subst (λ (y : Deed). Did past y) (some_is x d i) ok.1.did)) refl refl refl
+    by (Target t) (Grant lock (Some x)) (inr ok) i h = on (Target t) (Grant lock (Some x)) ok.1.serves refl refl refl
     by (Client c) (Act x) ok i h = absurd ok
     by (Client c) (Made x) ok i h = absurd ok
+    by (Client c) (Wait lock x) ok i h = absurd ok
+    by (Client c) (Responds x) ok i h = absurd ok
     by (Client c) (Grant lock asked) ok i h = absurd ok
     by _ _ ok i h = absurd i
 
@@ -117,17 +128,17 @@ serving_at head past l later a g = by l.at.node l.entry a
     by (Client c) (Act d) k = absurd k.ok
     by (Target t) (Act d) k = it_serves head t past g (act_for head past l.at.stamp t d k).serves
     by (Client c) (Made d) k = absurd k.ok
-    by (Target t) (Made d) k = it_serves head t past g (k.of t (self t)).serves
+    by (Target t) (Made d) k = it_serves head t past g (txns_serve head.osts (only t past) (turn l.at.stamp (Target t)) t d (k.of t (self t)))
     by (Client c) (Grant lock asked) k = absurd k.ok
-    by (Target t) (Grant lock None) k = absurd k.ok
+    by (Target t) (Grant lock None) k = it_serves head t past g (k.of t (self t)).1.serves
     by (Target t) (Grant lock (Some d)) k = it_serves head t past g (⊎_elim
         (λ (p : (t ≡ 0) × GrantOk head.osts (only t past) lock d). did_serves head (only t past) d (grown_of head t past g) p.1.did)
         (λ (p : (0 < t) × RangeOk head.osts (only t past) (turn l.at.stamp (Target t)) lock d). p.1.serves)
         (k.of t (self t)))
     by (Client c) (Wait lock asked) k = absurd k.ok
-    by (Target t) (Wait lock asked) k = absurd k.ok
+    by (Target t) (Wait lock asked) k = it_serves head t past g (k.of t (self t)).1.serves
     by (Client c) (Block called) k = absurd k.ok
-    by (Target t) (Block called) k = it_serves head t past g (k.of t (self t)).serves
+    by (Target t) (Block called) k = it_serves head t past g (⊎_elim (λ (p : (t ≡ 0) × BlockOk head.osts (only t past) called). p.1.serves) (λ (p : (0 < t) × WayOk head.osts (only t past) called). p.1.serves) (k.of t (self t)))
     by (Client c) (Release lock) k = absurd k.ok
     by (Target t) (Release lock) k = it_serves head t past g (k.of t (self t)).0
     by _ _ k = tt
@@ -160,21 +171,5 @@ boots_at head past l later a g = by l.at.node l.entry a
         up_now false = refl
     by _ _ k = tt
 
--- ---- lines that don't come
-
-waits_at : (past : List Line) (at : At) (later : List PrintedLine) (node : Node) (e : Entry) → EntryOk past (turn at.stamp node) node e → Says Waits past (turn at.stamp node) later e
-waits_at past at later (Client c) (Wait lock asked) ok = absurd ok
-waits_at past at later (Target t) (Wait lock asked) ok = absurd ok
-waits_at past at later _ _ ok = tt
-
--- a condition that each allowed entry keeps by itself
-module _ (head : Head) (law : Past → PrintedLine → List PrintedLine → Type 0) (each : (past : List Line) (at : At) (later : List PrintedLine) (node : Node) (e : Entry) → EntryOk past (turn at.stamp node) node e → Says law past (turn at.stamp node) later e) where
-  kept_by_each : (past : List Line) → Grown head past → Holds law (printed past)
-  kept_by_each past g = holds_before head law Nothing (λ l past k. k) (λ past l later a g k. each past l.at later l.at.node l.entry a.ok) past [] g tt
-
-module _ (head : Head) (past : List Line) (g : Grown head past) where
-  pub boots : Holds Boots (printed past)
-  boots = holds_before head Boots Nothing (λ l past k. k) (λ past l later a g k. boots_at head past l later a g) past [] g tt
-
-  pub waits : Holds Waits (printed past)
-  waits = kept_by_each head Waits waits_at past g
+pub boots : (head : Head) (past : List Line) → Grown head past → Holds Boots (printed past)
+boots head past g = holds_before head Boots Nothing (λ l past k. k) (λ past l later a g k. boots_at head past l later a g) past [] g tt

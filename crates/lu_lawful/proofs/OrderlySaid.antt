@@ -14,6 +14,7 @@ use Rattle.lu_base.specs.declared.ids.Txn.{Txn as TxnOf}
 use Rattle.lu_base.specs.declared.ids.Who.{Who}
 use Rattle.lu_base.specs.declared.ids.Xid.{Xid}
 use Rattle.lu_msg.specs.declared.commits.Batch.{Batch}
+use Rattle.lu_msg.specs.declared.messages.GrantNotice.{GrantNotice}
 use Rattle.lu_msg.specs.declared.messages.Message.{Message}
 use Rattle.lu_msg.specs.declared.messages.Message.TheVariants as message
 use Rattle.lu_msg.specs.declared.messages.Reply.{Reply as ReplyTo}
@@ -38,14 +39,13 @@ use Rattle.lu_laws.specs.Words.Lives.{who_is, is_by}
 use Rattle.lu_laws.specs.Words.Requests.{asked, is_of, has_heard, has_number, without_number, in_flight}
 use Rattle.lu_laws.specs.Order.Messages.{MessageAt, Messages}
 use Rattle.lu_laws.specs.Order.Heard.{HeardAt, Heard}
-use Rattle.lu_laws.specs.Order.Answers.{none, AnswerOf, AnswerBy, Answers}
+use Rattle.lu_laws.specs.Order.Answers.{none, AnswerOf, Answers}
 use Rattle.lu_guards.proofs.Guards.{In, Was}
 use Rattle.lu_guards.proofs.Grown.{Allowed, Grown}
 use Rattle.lu_guards.proofs.Lists.{self, life_self}
 use Rattle.lu_guards.proofs.Parts.{life_is_of}
 use Rattle.lu_facts.proofs.Groups.{turn, Hears}
 use Rattle.lu_facts.proofs.All.{holds}
-use Rattle.lu_lawful.proofs.Story.{story_at}
 use Rattle.lu_lawful.proofs.Once.{acted_sent}
 use Rattle.lu_laws.proofs.Tests.{settled, either_left, either_right}
 use Rattle.lu_lawful.proofs.Lines.{Keeps, holds_before, Nothing}
@@ -57,7 +57,7 @@ use Rattle.lu_lawful.proofs.Printed.{flip, present_is, own_by, own_story}
 use Rattle.lu_lawful.proofs.Taking.{boot_of}
 use Rattle.lu_lawful.proofs.Notices.{takes_it}
 use Rattle.lu_lawful.proofs.OrderlyQuiet.{Says}
-use Rattle.lu_facts.proofs.Lines.{acted_whole, hears_more}
+use Rattle.lu_facts.proofs.Lines.{hears_more}
 
 -- ---- what messages carry
 
@@ -89,6 +89,18 @@ notice_carries : (head : Head) (past : List Line) (stamp : Stamp) (t c : ℕ) (w
     → MessageAt (printed past) t (message.Evicted who boot)
 notice_carries head past stamp t c who boot a g = record { present = ap (λ (v : ℕ). Some v) ((a.of t (self t)).of_boot ∙ sym (boot_of head t past g)); number = tt }
 
+grant_carries : (head : Head) (past : List Line) (stamp : Stamp) (t c : ℕ) (n : GrantNotice) → Allowed head past (turn stamp (Target t)) (Send (Client c) (message.Grant n)) → Grown head past → MessageAt (printed past) t (message.Grant n)
+grant_carries head past stamp t c n a g =
+    let ok = a.of t (self t) in
+    record {
+      present = ap (λ (v : ℕ). Some v) (ap (λ (v : GrantNotice). v.boot) ok.is ∙ sym (boot_of head t past g));
+      number = ap (λ (v : GrantNotice). v.committed.0) ok.is ∙ sym (level_at head past stamp t (Send (Client c) (message.Grant n)) a tt g);
+    }
+
+ask_carries : (head : Head) (past : List Line) (stamp : Stamp) (t c : ℕ) (who : Who) (boot : ℕ) (cookie : Cookie) (for_who : Who) (x : Xid) → Allowed head past (turn stamp (Target t)) (Send (Client c) (message.Ask who boot cookie for_who x))
+    → Grown head past → MessageAt (printed past) t (message.Ask who boot cookie for_who x)
+ask_carries head past stamp t c who boot cookie for_who x a g = record { present = ap (λ (v : ℕ). Some v) ((a.of t (self t)).of_boot ∙ sym (boot_of head t past g)); number = tt }
+
 up_carries : (head : Head) (past : List Line) (stamp : Stamp) (t c boot : ℕ) → Allowed head past (turn stamp (Target t)) (Send (Client c) (message.Up boot)) → Grown head past → MessageAt (printed past) t (message.Up boot)
 up_carries head past stamp t c boot a g = record { present = ap (λ (v : ℕ). Some v) ((a.of t (self t)).of_boot ∙ sym (boot_of head t past g)); number = tt }
 
@@ -111,6 +123,8 @@ messages_at head past l later a g = by l.at.node l.entry a
     by (Target t) (Send (Client c) (message.Ready who boot number)) k = ready_carries head past l.at.stamp t c who boot number k g
     by (Target t) (Send (Client c) (message.Evicted who boot)) k = notice_carries head past l.at.stamp t c who boot k g
     by (Target t) (Send (Client c) (message.Up boot)) k = up_carries head past l.at.stamp t c boot k g
+    by (Target t) (Send (Client c) (message.Grant n)) k = grant_carries head past l.at.stamp t c n k g
+    by (Target t) (Send (Client c) (message.Ask who boot cookie for_who x)) k = ask_carries head past l.at.stamp t c who boot cookie for_who x k g
     by (Target t) (Send (Client c) m) k = absurd k.ok
     by (Target t) (Send (Target u) m) k = absurd k.ok
     by _ _ k = tt
@@ -226,7 +240,7 @@ reply_heard head past stamp c t f r a g =
     let took = takes_it head past at (Target t) (message.Reply r) g a.ok.1 in
     let fits : as_reply t r.who r.xid.0 (Target t) (message.Reply r) ≡ Some r = by (same_life r.who r.who) (life_self r.who) in
     let m = h.done.sent (Target ok.from) (Client c) (message.Reply r) ok.was in
-    let sent = acted_sent head past t m.deed g (story_at head past t m.deed g m.acted) (acted_whole t past m.deed m.acted) in
+    let sent = acted_sent head past t m.deed g m.acted in
     let who : sent.0.who ≡ r.who = sent.2 ∙ ap (λ (v : ReplyTo). v.who) (sym m.is) in
     let x : sent.0.xid.0 ≡ r.xid.0 = ap (λ (v : Xid). v.0) sent.3 ∙ ap (λ (v : ReplyTo). v.xid.0) (sym m.is) in
     let flown = subst (λ (v : ℕ). FlownOr t past r.who v) x (sent_flies t past r.who sent.0 sent.1.0 who sent.1.1) in
@@ -263,7 +277,7 @@ heard head past g = holds_before head Heard Nothing (λ l past k. k) (λ past l 
 abbrev told_of : Deed → TxnOf → Operation
 told_of d number = record { number = number; who = d.reply.who; op = d.op }
 
-act_answers : (head : Head) (past : List Line) (at : At) (d : Deed) → Grown head past → AllAsked past → AskedAt past d → ActIs head.osts (server_at head.osts 0 past) at d → AnswerOf head.osts (printed past) none d.reply.who d.reply.answer false (asked (printed past) 0 d.reply.who d.reply.xid.0)
+act_answers : (head : Head) (past : List Line) (at : At) (d : Deed) → Grown head past → AllAsked past → AskedAt 0 past d → ActIs head.osts (server_at head.osts 0 past) at d → AnswerOf head.osts (printed past) none d.reply.who d.reply.answer false (asked (printed past) 0 d.reply.who d.reply.xid.0)
 act_answers head past at d g a asks is =
     let alike = contents_alike head past g a (told_of d none) in
     subst (AnswerOf head.osts (printed past) none d.reply.who d.reply.answer false) (sym asks)
@@ -272,7 +286,7 @@ act_answers head past at d g a asks is =
       kind = alike.changes ∙ ap (λ (n : TxnOf). changes head.osts (server_at head.osts 0 past).tree (told_of d n)) (sym is.txn) ∙ is.still;
     })
 
-txn_answers : (head : Head) (past : List Line) (at : At) (d : Deed) → Grown head past → AllAsked past → AskedAt past d → TxnIs head.osts (server_at head.osts 0 past) at d
+txn_answers : (head : Head) (past : List Line) (at : At) (d : Deed) → Grown head past → AllAsked past → AskedAt 0 past d → TxnIs head.osts (server_at head.osts 0 past) at d
     → AnswerOf head.osts (printed past) d.reply.txn d.reply.who d.reply.answer true (asked (printed past) 0 d.reply.who d.reply.xid.0)
 txn_answers head past at d g a asks is =
     let alike = contents_alike head past g a (operation d) in
@@ -285,9 +299,10 @@ answers_at head past l later a g asks = by l.at.node l.entry a asks
     by : (node : Node) (e : Entry) → Allowed head past (turn l.at.stamp node) e → AllAsked (line (turn l.at.stamp node) e ∷ past) → Says (Answers head.osts) past (turn l.at.stamp node) later e
     by (Client c) (Act d) k asks = absurd k.ok
     by (Client c) (Made d) k asks = absurd k.ok
-    by (Target zero) (Act d) k asks = act_answers head past (turn l.at.stamp (Target 0)) d g asks.1 (asks.0 refl) (act_is head past l.at.stamp d k)
+    by (Target zero) (Act d) k asks = act_answers head past (turn l.at.stamp (Target 0)) d g asks.1 (asks.0 0 refl) (act_is head past l.at.stamp d k)
     by (Target (suc t)) (Act d) k asks = tt
-    by (Target t) (Made d) k asks = subst (λ (v : ℕ). AnswerBy head.osts (printed past) (Target v) d.reply.txn d.reply.who d.reply.xid.0 d.reply.answer true) (sym k.ok) (txn_answers head past (turn l.at.stamp (Target t)) d g asks.1 asks.0 (txn_is head past l.at.stamp t d k))
+    by (Target zero) (Made d) k asks = txn_answers head past (turn l.at.stamp (Target 0)) d g asks.1 (asks.0 0 refl) (txn_is head past l.at.stamp d k)
+    by (Target (suc t)) (Made d) k asks = tt
     by _ _ k asks = tt
 
 pub answers : (head : Head) (past : List Line) → Grown head past → AllAsked past → Holds (Answers head.osts) (printed past)

@@ -14,6 +14,8 @@ use Rattle.lu_lawful.proofs.OrderlySaid as said
 use Rattle.lu_lawful.proofs.OrderlyAsked as asked
 use Rattle.lu_lawful.proofs.OrderlyAgain as again
 use Rattle.lu_lawful.proofs.OrderlyLocks as locks
+use Rattle.lu_lawful.proofs.OrderlyBlocks as blocks
+use Rattle.lu_lawful.proofs.OrderlyWaits as waits
 
 pub orderly : OfEveryRun (λ osts whole. Orderly osts whole)
 orderly all turns is run covered =
@@ -34,7 +36,7 @@ orderly all turns is run covered =
       kept = handed.kept head past g;
       restored = handed.restored_locks head past g;
       joined = joined.joined head past g;
-      waits = quiet.waits head past g;
+      waits = waits.waits head past g;
       releases = locks.releases head past g;
-      blocks = locks.blocks head past g;
+      blocks = blocks.blocks head past g;
     }

@@ -13,6 +13,7 @@ use Rattle.lu_msg.specs.declared.answers.Answer.TheVariants as answer
 use Rattle.lu_msg.specs.declared.answers.Errno.TheVariants.{EIO, EBADF}
 use Rattle.lu_msg.specs.declared.calls.Call.{Call}
 use Rattle.lu_msg.specs.declared.calls.Call.TheVariants as call
+use Rattle.lu_msg.specs.declared.messages.GrantNotice.{GrantNotice}
 use Rattle.lu_msg.specs.declared.messages.Message.{Message}
 use Rattle.lu_msg.specs.declared.messages.Message.TheVariants as message
 use Rattle.lu_msg.specs.declared.messages.Reply.{Reply as ReplyTo}
@@ -22,22 +23,23 @@ use Rattle.lu_held.specs.Held.{is_held, in_order}
 use Rattle.lu_held.specs.Locks.{named, name_of}
 use Rattle.lu_machine.specs.Fits.{answer_fits}
 use Rattle.lu_words.specs.Carried.{HandleFile, Flight, Stage, Plain, Bad, Looks, Waits, Forgotten, Running}
-use Rattle.lu_words.specs.Words.{Entry, Send, Take, Tick, Begin, Busy, Told, Heard, Drop, Life, Die, Knows, Stands, Unbinds, Line, line, with_turn, is_client, same_life}
+use Rattle.lu_words.specs.Words.{Entry, Send, Take, Tick, Begin, Busy, Told, Heard, Marks, Drop, Life, Die, Knows, Unmarks, Serves, Settles, Stands, Unbinds, Line, line, with_turn, is_client, same_life}
 use Rattle.lu_words.specs.Fields.{on}
 use Rattle.lu_words.specs.Sent.{Sent}
 use Rattle.lu_target_rows.specs.Disks.{row_start}
-use Rattle.lu_client_rows.specs.Caches.{brought, reads_held, held_after, held_at}
+use Rattle.lu_client_rows.specs.Advances.{at_stage}
+use Rattle.lu_client_rows.specs.Caches.{brought, reads_held, held_after, held_at, patches_at}
 use Rattle.lu_client_rows.specs.Calls.{call_on, reads_call, call_after, calls_after, file_of}
 use Rattle.lu_client_rows.specs.Imports.{Standing, Joining, Recovering, Serving, Import, Replay, import_of}
-use Rattle.lu_client_rows.specs.Messages.{size_with, holds, learns, heeds, on_running, hears_flight, hears_fitting, hears, replied, find_flight, lock_blocked, waiter, cancels_unknown, blocked_waiting, blocked_held, blocked, up_heard, ready_heard, evicted_heard, is_present, comes_from, comes_by}
-use Rattle.lu_client_rows.specs.Recovery.{replays, lock_replays, held_of, word, recovers, forgets_stage, looks_stage, on_calls, is_left_at, comes_up, ready, ends_call, ends_calls, drops_all, next_life, joins_all, evicted, where_stage, ticks_at, ticks}
+use Rattle.lu_client_rows.specs.Messages.{size_with, held_as as of_name, holds, learns, heeds, on_running, on_slot, hears_flight, hears_fitting, hears, replied, find_flight, lock_granted, granted, lock_blocked, waiter, cancels_unknown, blocked_waiting, blocked_held, blocked, size_held, Question, peeks, asked, up_heard, ready_heard, evicted_heard, is_present, comes_from, comes_by}
+use Rattle.lu_client_rows.specs.Recovery.{replays, lock_replays, held_of, word, recovers, forgets_stage, looks_stage, on_call, on_calls, is_left_at, comes_up, up, ready, ends_call, ends_calls, drops_all, next_life, joins_all, evicted, where_stage, ticks_at, ticks}
 use Rattle.lu_client_rows.specs.Rows as client
 use Rattle.lu_client_rows.specs.Rows.{rests, row_call}
 use Rattle.lu_client_rows.specs.Sending.{resends}
 use Rattle.lu_client_rows.specs.Slots.{begun, begins_on, begins_close, opens, begins_open, begins, slots_go}
 use Rattle.lu_client_rows.specs.States.{Client as ClientState, follow, after, turn as turn_of}
 use Rattle.lu_target_rows.specs.Rows as target
-use Rattle.lu_covered.specs.Calls.{call_at, calls_at}
+use Rattle.lu_covered.specs.Calls.{call_at, calls_at, life_at}
 use Rattle.lu_covered.specs.Covered.{AllCovered}
 use Rattle.lu_covered.specs.Heads.{Head, IsAlive}
 use Rattle.lu_covered.specs.Imports.{flights_at}
@@ -53,18 +55,18 @@ use Rattle.lu_guards.proofs.Parts.{flights_now}
 use Rattle.lu_guards.proofs.Turns.{covered_head, run_later}
 use Rattle.lu_guards.proofs.Covers.{EntriesCovered, covered_turn, over_none}
 use Rattle.lu_guards.proofs.ClientLocks.{Once}
-use Rattle.lu_guards.proofs.ClientLines.{IsSimple, IsLock, SmallOn, small_on, on_other, asked_simple, flights_asked, ComesTo, comes_to, was_there}
-use Rattle.lu_guards.proofs.ClientRests.{call_line, followed}
-use Rattle.lu_guards.proofs.ClientCalls.{covered_left, covered_right}
+use Rattle.lu_guards.proofs.ClientLines.{IsSimple, IsLock, IsBytes, SmallOn, small_on, on_other, asked_parts, flights_asked, ComesTo, comes_to, was_there}
+use Rattle.lu_guards.proofs.ClientGood.{call_line, followed}
 use Rattle.lu_guards.proofs.ClientStarts.{Starts}
 use Rattle.lu_guards.proofs.ClientReplies.{reply_after}
+use Rattle.lu_guards.proofs.ClientGrants.{grant_after}
 use Rattle.lu_guards.proofs.Obey.{Stands as StandsAt, stands}
 use Rattle.lu_guards.proofs.PinsFit.{PinsFit}
-use Rattle.lu_guards.proofs.PinsCount.{count_of, sum_less, names_on, pins_at, CallFit}
+use Rattle.lu_guards.proofs.PinsCount.{count_of, sum_less, names_on, pins_at, RoomOf, CallFit}
 use Rattle.lu_guards.proofs.PinsSteps.{PinsOf, AllBits, Fit, call_named, named_by, fit_told, fit_begun, fit_light, AllLight, fit_lights, lights_more}
 use Rattle.lu_guards.proofs.PinsSlots.{NotCame, goes_then, slots_fit, drop_fit, tail, tail_fit}
 use Rattle.lu_guards.proofs.Ends.{grown_under}
-use Rattle.lu_lawful.proofs.PinsEvents.{idle_came, heard_hears, holds_hears, learns_light, CameAt, came_at, heeds_fit}
+use Rattle.lu_lawful.proofs.PinsEvents.{idle_came, call_on_is, heard_hears, holds_hears, learns_light, stand_fit, CameAt, came_at, heeds_fit, granted_fit}
 
 turn_calls : (es : List Entry) (j k : ClientState) → j.calls ≡ k.calls → (turn_of j es).calls ≡ (turn_of k es).calls
 turn_calls [] j k same = same
@@ -85,37 +87,21 @@ module _ (head : table.Head) (c : ℕ) (stamp : Stamp) where
 
   -- ---- lines that leave the pins
 
-  on_calls_light : (f : ℕ → Running → Stage → List Entry) → ((slot : ℕ) (r : Running) (x : Stage) → EntriesCovered (f slot r x) → Light (f slot r x)) → (n : ℕ) (calls : List (Option Running))
-      → EntriesCovered (on_calls f n calls) → Light (on_calls f n calls)
-  on_calls_light f light n [] covered = tt
-  on_calls_light f light n (None ∷ calls) covered = on_calls_light f light (n + 1) calls covered
-  on_calls_light f light n (Some r ∷ calls) covered =
-      lights_more head c stamp (f n r r.stage) (on_calls f (n + 1) calls) (light n r r.stage (covered_left (f n r r.stage) (on_calls f (n + 1) calls) covered))
-      (on_calls_light f light (n + 1) calls (covered_right (f n r r.stage) (on_calls f (n + 1) calls) covered))
+  on_call_light : (f : ℕ → Running → Stage → List Entry) → ((slot : ℕ) (r : Running) (x : Stage) → Light (f slot r x)) → (slot : ℕ) (x : Option Running) → Light (on_call f slot x)
+  on_call_light f light slot None = tt
+  on_call_light f light slot (Some r) = light slot r r.stage
 
-  forgets_light : (t slot : ℕ) (r : Running) (x : Stage) → EntriesCovered (forgets_stage t slot r x) → Light (forgets_stage t slot r x)
-  forgets_light t slot r (Waits w target l marked) = by (nat_eq target.0 t)
-    where
-      by : (b : Bool) → EntriesCovered (if b then Stands slot (record r { stage = Forgotten w }) ∷ [] else []) → Light (if b then Stands slot (record r { stage = Forgotten w }) ∷ [] else [])
-      by true covered = absurd covered.0
-      by false covered = tt
-  forgets_light t slot r x = λ covered. tt
+  on_calls_light : (f : ℕ → Running → Stage → List Entry) → ((slot : ℕ) (r : Running) (x : Stage) → Light (f slot r x)) → (n : ℕ) (calls : List (Option Running)) → Light (on_calls f n calls)
+  on_calls_light f light n [] = tt
+  on_calls_light f light n (x ∷ calls) = lights_more head c stamp (on_call f n x) (on_calls f (n + 1) calls) (on_call_light f light n x) (on_calls_light f light (n + 1) calls)
 
-  looks_light : (t slot : ℕ) (r : Running) (x : Stage) → EntriesCovered (looks_stage t slot r x) → Light (looks_stage t slot r x)
-  looks_light t slot r (Forgotten w) = by (is_left_at t w.left)
-    where
-      by : (b : Bool) → EntriesCovered (if b then Stands slot (record r { stage = Looks w }) ∷ [] else []) → Light (if b then Stands slot (record r { stage = Looks w }) ∷ [] else [])
-      by true covered = absurd covered.0
-      by false covered = tt
-  looks_light t slot r x = λ covered. tt
-
-  where_light : (who : Who) (boot t slot : ℕ) (r : Running) (x : Stage) → EntriesCovered (where_stage who boot t slot r x) → Light (where_stage who boot t slot r x)
+  where_light : (who : Who) (boot t slot : ℕ) (r : Running) (x : Stage) → Light (where_stage who boot t slot r x)
   where_light who boot t slot r (Waits w target l marked) = by (nat_eq target.0 t)
     where
-      by : (b : Bool) → EntriesCovered (if b then Send (Target t) (message.Where who boot l.cookie) ∷ [] else []) → Light (if b then Send (Target t) (message.Where who boot l.cookie) ∷ [] else [])
-      by true covered = (tt, tt)
-      by false covered = tt
-  where_light who boot t slot r x = λ covered. tt
+      by : (b : Bool) → Light (if b then Send (Target t) (message.Where who boot l.cookie) ∷ [] else [])
+      by true = (tt, tt)
+      by false = tt
+  where_light who boot t slot r x = tt
 
   replays_light : (who : Who) (boot t : ℕ) (rs : List Replay) → Light (replays who boot t rs)
   replays_light who boot t [] = tt
@@ -140,42 +126,158 @@ module _ (head : table.Head) (c : ℕ) (stamp : Stamp) where
   joins_light who t [] = tt
   joins_light who t (i ∷ is) = (tt, joins_light who (t + 1) is)
 
-  ticks_at_light : (t : ℕ) (k : ClientState) (i : Import) (x : Standing) → EntriesCovered (ticks_at t k i x) → Light (ticks_at t k i x)
-  ticks_at_light t k i Serving = λ covered.
-      let es = resends k.who i.boot t i.flights in
-      let fs = on_calls (where_stage k.who i.boot t) 0 k.calls in
-      lights_more head c stamp es fs (resends_light k.who i.boot t i.flights) (on_calls_light (where_stage k.who i.boot t) (where_light k.who i.boot t) 0 k.calls (covered_right es fs covered))
-  ticks_at_light t k i Recovering = λ covered. recovers_light t k i
-  ticks_at_light t k i Joining = λ covered. (tt, tt)
+  ticks_at_light : (t : ℕ) (k : ClientState) (i : Import) (x : Standing) → Light (ticks_at t k i x)
+  ticks_at_light t k i Serving =
+      lights_more head c stamp (resends k.who i.boot t i.flights) (on_calls (where_stage k.who i.boot t) 0 k.calls) (resends_light k.who i.boot t i.flights)
+      (on_calls_light (where_stage k.who i.boot t) (where_light k.who i.boot t) 0 k.calls)
+  ticks_at_light t k i Recovering = recovers_light t k i
+  ticks_at_light t k i Joining = (tt, tt)
 
-  ticks_light : (t : ℕ) (is : List Import) (k : ClientState) → EntriesCovered (ticks t is k) → Light (ticks t is k)
-  ticks_light t [] k covered = tt
-  ticks_light t (i ∷ is) k covered =
-      let es = ticks_at t k i i.standing in
-      let fs = ticks (t + 1) is k in
-      lights_more head c stamp es fs (ticks_at_light t k i i.standing (covered_left es fs covered)) (ticks_light (t + 1) is k (covered_right es fs covered))
+  ticks_light : (t : ℕ) (is : List Import) (k : ClientState) → Light (ticks t is k)
+  ticks_light t [] k = tt
+  ticks_light t (i ∷ is) k = lights_more head c stamp (ticks_at t k i i.standing) (ticks (t + 1) is k) (ticks_at_light t k i i.standing) (ticks_light (t + 1) is k)
 
-  up_light : (t : ℕ) (k : ClientState) (i : Import) (x : Standing) → EntriesCovered (comes_up t k i x) → Light (comes_up t k i x)
-  up_light t k i Joining = λ covered. (tt, tt)
-  up_light t k i Serving = λ covered. (tt, forgets t k i covered.1)
+  -- ---- calls that stand elsewhere, with all that they have pinned
+
+  -- each of these stands there, or stays
+  abbrev Moves : (ℕ → Running → Stage → List Entry) → Type 0
+  Moves f = (slot : ℕ) (r : Running) (x : Stage) → (f slot r x ≡ []) ⊎ ((y : Stage) × (f slot r x ≡ Stands slot (at_stage r y) ∷ []) × ((held : List HeldLock) (names : List LockName) → RoomOf held names x → RoomOf held names y))
+
+  forgets_moves : (t : ℕ) → Moves (forgets_stage t)
+  forgets_moves t slot r (Waits w target l marked) = by (nat_eq target.0 t) refl
     where
-      forgets : (t : ℕ) (k : ClientState) (i : Import) → EntriesCovered (on_calls (forgets_stage t) 0 k.calls ++ recovers t k i) → Light (on_calls (forgets_stage t) 0 k.calls ++ recovers t k i)
-      forgets t k i covered =
-          let es = on_calls (forgets_stage t) 0 k.calls in
-          lights_more head c stamp es (recovers t k i) (on_calls_light (forgets_stage t) (forgets_light t) 0 k.calls (covered_left es (recovers t k i) covered)) (recovers_light t k i)
-  up_light t k i Recovering = λ covered. (tt, forgets t k i covered.1)
-    where
-      forgets : (t : ℕ) (k : ClientState) (i : Import) → EntriesCovered (on_calls (forgets_stage t) 0 k.calls ++ recovers t k i) → Light (on_calls (forgets_stage t) 0 k.calls ++ recovers t k i)
-      forgets t k i covered =
-          let es = on_calls (forgets_stage t) 0 k.calls in
-          lights_more head c stamp es (recovers t k i) (on_calls_light (forgets_stage t) (forgets_light t) 0 k.calls (covered_left es (recovers t k i) covered)) (recovers_light t k i)
+      by : (b : Bool) → nat_eq target.0 t ≡ b → (forgets_stage t slot r (Waits w target l marked) ≡ [])
+          ⊎ ((y : Stage) × (forgets_stage t slot r (Waits w target l marked) ≡ Stands slot (at_stage r y) ∷ []) × ((held : List HeldLock) (names : List LockName) → RoomOf held names (Waits w target l marked) → RoomOf held names y))
+      by true e = inr (Forgotten w, rw e refl, λ held names room. room)
+      by false e = inl (rw e refl)
+  forgets_moves t slot r x = inl refl
 
-  ready_light : (t boot committed : ℕ) (k : ClientState) → EntriesCovered (ready t boot committed k) → Light (ready t boot committed k)
-  ready_light t boot committed k covered =
-      let i = import_of t k.imports in
-      let es = resends k.who i.boot t i.flights in
-      let fs = on_calls (looks_stage t) 0 k.calls in
-      (tt, (tt, lights_more head c stamp es fs (resends_light k.who i.boot t i.flights) (on_calls_light (looks_stage t) (looks_light t) 0 k.calls (covered_right es fs covered.1.1))))
+  looks_moves : (t : ℕ) → Moves (looks_stage t)
+  looks_moves t slot r (Forgotten w) = by (is_left_at t w.left) refl
+    where
+      by : (b : Bool) → is_left_at t w.left ≡ b → (looks_stage t slot r (Forgotten w) ≡ [])
+          ⊎ ((y : Stage) × (looks_stage t slot r (Forgotten w) ≡ Stands slot (at_stage r y) ∷ []) × ((held : List HeldLock) (names : List LockName) → RoomOf held names (Forgotten w) → RoomOf held names y))
+      by true e = inr (Looks w, rw e refl, λ held names room. room)
+      by false e = inl (rw e refl)
+  looks_moves t slot r x = inl refl
+
+  -- and no other call
+  record Moved (slot : ℕ) (p q : List Line) : Type 0 where
+    fit : Fit c q
+    others : (s : ℕ) → nat_eq slot s ≡ false → call_at c s q ≡ call_at c s p
+
+  call_moved : (f : ℕ → Running → Stage → List Entry) → Moves f → (slot : ℕ) (x : Option Running) (p : List Line) → slot < 4 → call_at c slot p ≡ x → Fit c p → Moved slot p (with_turn at (on_call f slot x) p)
+  call_moved f moves slot None p small is fit = record { fit = fit; others = λ s n. refl }
+  call_moved f moves slot (Some r) p small is fit = by (moves slot r r.stage)
+    where
+      by : (f slot r r.stage ≡ []) ⊎ ((y : Stage) × (f slot r r.stage ≡ Stands slot (at_stage r y) ∷ []) × ((held : List HeldLock) (names : List LockName) → RoomOf held names r.stage → RoomOf held names y)) → Moved slot p (with_turn at (f slot r r.stage) p)
+      by (inl none) = subst (λ (es : List Entry). Moved slot p (with_turn at es p)) (sym none) (record { fit = fit; others = λ s n. refl })
+      by (inr y) =
+          subst (λ (es : List Entry). Moved slot p (with_turn at es p)) (sym y.1) (record {
+            fit = stand_fit head c stamp slot r y.0 p small is (y.2 (held_at c p) r.pins) fit;
+            others = λ s n. call_line head c stamp s p (Stands slot (at_stage r y.0)) ∙ ap (λ (b : Bool). if b then Some (at_stage r y.0) else call_at c s p) n;
+          })
+
+  calls_fit : (f : ℕ → Running → Stage → List Entry) → Moves f → (p : List Line) → Fit c p → Fit c (with_turn at (on_calls f 0 (calls_at c p)) p)
+  calls_fit f moves p fit = subst (Fit c) (sym all) m3.fit
+    where
+      e0 : List Entry
+      e0 = on_call f 0 (call_at c 0 p)
+
+      e1 : List Entry
+      e1 = on_call f 1 (call_at c 1 p)
+
+      e2 : List Entry
+      e2 = on_call f 2 (call_at c 2 p)
+
+      e3 : List Entry
+      e3 = on_call f 3 (call_at c 3 p)
+
+      p1 : List Line
+      p1 = with_turn at e0 p
+
+      p2 : List Line
+      p2 = with_turn at e1 p1
+
+      p3 : List Line
+      p3 = with_turn at e2 p2
+
+      p4 : List Line
+      p4 = with_turn at e3 p3
+
+      all : with_turn at (on_calls f 0 (calls_at c p)) p ≡ p4
+      all = turn_more at e0 (e1 ++ (e2 ++ (e3 ++ []))) p ∙ turn_more at e1 (e2 ++ (e3 ++ [])) p1 ∙ turn_more at e2 (e3 ++ []) p2 ∙ turn_more at e3 [] p3
+
+      m0 : Moved 0 p p1
+      m0 = call_moved f moves 0 (call_at c 0 p) p (omega arith) refl fit
+
+      m1 : Moved 1 p1 p2
+      m1 = call_moved f moves 1 (call_at c 1 p) p1 (omega arith) (m0.others 1 refl) m0.fit
+
+      m2 : Moved 2 p2 p3
+      m2 = call_moved f moves 2 (call_at c 2 p) p2 (omega arith) (m1.others 2 refl ∙ m0.others 2 refl) m1.fit
+
+      m3 : Moved 3 p3 p4
+      m3 = call_moved f moves 3 (call_at c 3 p) p3 (omega arith) (m2.others 3 refl ∙ m1.others 3 refl ∙ m0.others 3 refl) m2.fit
+
+  -- a target is up again
+  up_fit : (t boot : ℕ) (p : List Line) → Fit c p → Fit c (with_turn at (up t boot (client_of head c p)) p)
+  up_fit t boot p fit = by (import_of t j.imports) (import_of t j.imports).standing
+    where
+      j : ClientState
+      j = turn_of (client_of head c p) (Knows t boot ∷ [])
+
+      p1 : List Line
+      p1 = line at (Knows t boot) ∷ p
+
+      p2 : List Line
+      p2 = line at (Unmarks t) ∷ p1
+
+      fit1 : Fit c p1
+      fit1 = fit_light head c stamp p (Knows t boot) tt fit
+
+      forgets : (i : Import) → Fit c (with_turn at (on_calls (forgets_stage t) 0 (calls_at c p2) ++ recovers t j i) p2)
+      forgets i =
+          let es = on_calls (forgets_stage t) 0 (calls_at c p2) in
+          subst (Fit c) (sym (turn_more at es (recovers t j i) p2))
+          (fit_lights head c stamp (recovers t j i) (with_turn at es p2) (recovers_light t j i) (calls_fit (forgets_stage t) (forgets_moves t) p2 (fit_light head c stamp p1 (Unmarks t) tt fit1)))
+
+      by : (i : Import) (x : Standing) → Fit c (with_turn at (comes_up t j i x) p1)
+      by i Joining = fit_light head c stamp p1 (Send (Target t) (message.Join j.who i.boot)) tt fit1
+      by i Serving = forgets i
+      by i Recovering = forgets i
+
+  -- a target serves the life
+  resends_calls : (who : Who) (boot t : ℕ) (fs : List Flight) (p : List Line) (s : ℕ) → call_at c s (with_turn at (resends who boot t fs) p) ≡ call_at c s p
+  resends_calls who boot t [] p s = refl
+  resends_calls who boot t (f ∷ fs) p s = resends_calls who boot t fs _ s
+
+  ready_fit : (t boot committed : ℕ) (p : List Line) → Fit c p → Fit c (with_turn at (ready t boot committed (client_of head c p)) p)
+  ready_fit t boot committed p fit =
+      subst (Fit c) (sym (turn_more at es (on_calls (looks_stage t) 0 (calls_at c p)) p2))
+      (subst (λ (cs : List (Option Running)). Fit c (with_turn at (on_calls (looks_stage t) 0 cs) q)) calls
+      (calls_fit (looks_stage t) (looks_moves t) q (fit_lights head c stamp es p2 (resends_light k.who i.boot t i.flights) (fit_light head c stamp _ (Settles t committed) tt (fit_light head c stamp p (Serves t boot) tt fit)))))
+    where
+      k : ClientState
+      k = client_of head c p
+
+      i : Import
+      i = import_of t k.imports
+
+      es : List Entry
+      es = resends k.who i.boot t i.flights
+
+      p2 : List Line
+      p2 = line at (Settles t committed) ∷ line at (Serves t boot) ∷ p
+
+      q : List Line
+      q = with_turn at es p2
+
+      same : (s : ℕ) → call_at c s q ≡ call_at c s p
+      same s = resends_calls k.who i.boot t i.flights p2 s
+
+      calls : calls_at c q ≡ calls_at c p
+      calls = rw (same 0, same 1, same 2, same 3) refl
 
   -- ---- a lock is called back
 
@@ -183,24 +285,40 @@ module _ (head : table.Head) (c : ℕ) (stamp : Stamp) where
   cancels_light who name boot [] = (tt, tt)
   cancels_light who name boot (f ∷ fs) = tt
 
-  blocked_light : (name : LockName) (k : ClientState) → EntriesCovered (blocked name k true) → Light (blocked name k true)
-  blocked_light name k = by (is_held name k.store.held)
+  called_moves : Moves lock_blocked
+  called_moves slot r (Waits w target l marked) = inr (Waits w target l true, refl, λ held names room. room)
+  called_moves slot r x = inl refl
+
+  blocked_fit : (name : LockName) (b : Bool) (p : List Line) → Fit c p → Fit c (with_turn at (blocked name (client_of head c p) b) p)
+  blocked_fit name false p fit = fit
+  blocked_fit name true p fit = by (is_held name k.store.held)
     where
-      call_light : (slot : ℕ) (r : Running) (x : Stage) → EntriesCovered (lock_blocked slot r x) → Light (lock_blocked slot r x)
-      call_light slot r (Waits w target l marked) covered = absurd covered.0
-      call_light slot r x covered = tt
+      k : ClientState
+      k = client_of head c p
 
-      running_light : (slot : ℕ) (x : Option Running) → EntriesCovered (on_running lock_blocked slot x) → Light (on_running lock_blocked slot x)
-      running_light slot None covered = tt
-      running_light slot (Some r) covered = call_light slot r r.stage covered
+      running : (slot : ℕ) (x : Option Running) → call_on slot (calls_at c p) ≡ x → Fit c (with_turn at (on_running lock_blocked slot x) p)
+      running slot None e = fit
+      running slot (Some r) e = let on = call_on_is c slot p r e in (call_moved lock_blocked called_moves slot (Some r) p on.0 on.1 fit).fit
 
-      waits : (o : Option ℕ) → EntriesCovered (blocked_waiting name k o) → Light (blocked_waiting name k o)
-      waits (Some slot) covered = running_light slot (call_on slot k.calls) covered
-      waits None covered = cancels_light k.who name (import_of name.target.0 k.imports).boot (import_of name.target.0 k.imports).flights
+      waits : (o : Option ℕ) → Fit c (with_turn at (blocked_waiting name k o) p)
+      waits (Some slot) = running slot (call_on slot (calls_at c p)) refl
+      waits None =
+          let i = import_of name.target.0 k.imports in
+          fit_lights head c stamp (cancels_unknown k.who name i.boot i.flights) p (cancels_light k.who name i.boot i.flights) fit
 
-      by : (b : Bool) → EntriesCovered (blocked_held name k b) → Light (blocked_held name k b)
-      by true covered = (tt, tt)
-      by false covered = waits (waiter name 0 k.calls) covered
+      by : (b : Bool) → Fit c (with_turn at (blocked_held name k b) p)
+      by true = fit_light head c stamp p (Marks name) tt fit
+      by false = waits (waiter name 0 k.calls)
+
+  -- ---- another client asks how long an object is
+
+  asked_light : (t : ℕ) (a : Question) (k : ClientState) (b : Bool) → Light (asked at t a k b)
+  asked_light t a k false = tt
+  asked_light t a k true = by (size_held k.store (of_name (named (record { 0 = t }) a.cookie) k.store.held))
+    where
+      by : (o : Option ℕ) → Light (peeks at t a k.who (import_of t k.imports).boot o)
+      by None = (tt, tt)
+      by (Some size) = (tt, (tt, tt))
 
   -- ---- an eviction
 
@@ -303,11 +421,11 @@ module _ (head : table.Head) (c : ℕ) (stamp : Stamp) where
     abbrev p1 : List Line
     p1 = line at (Take n (Target t) (message.Reply r)) ∷ p
 
-    abbrev Comes : List Entry → Type 0
-    Comes es = EntriesCovered es → Grown few (with_turn at es p1) → CameAt head c stamp (with_turn at es p1) → Fit c (with_turn at es p1)
+    abbrev Hearing : List Entry → Type 0
+    Hearing es = Grown few (with_turn at es p1) → CameAt head c stamp (with_turn at es p1) → Fit c (with_turn at es p1)
 
-    flight_fit : (f : Flight) → Comes (hears_flight t r f k)
-    flight_fit f covered g at_end = subst (Fit c) (sym so) (heeds_fit head c stamp t f f.op r j p4 calls asked fit4 (covered_right es heeding covered) (subst (CameAt head c stamp) so at_end))
+    flight_fit : (f : Flight) → Hearing (hears_flight t r f k)
+    flight_fit f g at_end = subst (Fit c) (sym so) (heeds_fit head c stamp t f f.op r j p4 calls asked fit4 (subst (CameAt head c stamp) so at_end))
       where
         shows : List Entry
         shows = holds t (size_with r.answer) r.seen (brought f.op r)
@@ -359,23 +477,23 @@ module _ (head : table.Head) (c : ℕ) (stamp : Stamp) where
         flying : In f (flights_at c t p1)
         flying = subst (λ (fs : List Flight). In f fs) (sym (flights_now few c t p1 g2.1)) (g2.0.of t (self t)).flying
 
-        asked : IsSimple f.op ⊎ IsLock f.op
-        asked = ⊎_elim (λ (s : IsSimple f.op). inl s) (λ (l : (0 < t) × IsLock f.op). inr l.1) (asked_simple t f.op (flights_asked few c t p1 g2.1 f flying))
+        asked : IsSimple f.op ⊎ IsLock f.op ⊎ IsBytes f.op
+        asked = ⊎_elim (λ (s : IsSimple f.op). inl s) (λ (l : (0 < t) × (IsLock f.op ⊎ IsBytes f.op)). inr l.1) (asked_parts t f.op (flights_asked few c t p1 g2.1 f flying))
 
-    reply_fit : Comes (comes_by at (Target t) (message.Reply r) k)
+    reply_fit : Hearing (comes_by at (Target t) (message.Reply r) k)
     reply_fit = by_life (is_present r.who r.boot t k)
       where
-        by_fit : (f : Flight) (b : Bool) → Comes (hears_fitting t r f k b)
-        by_fit f false covered g at_end = fit
-        by_fit f true covered g at_end = flight_fit f covered g at_end
+        by_fit : (f : Flight) (b : Bool) → Hearing (hears_fitting t r f k b)
+        by_fit f false g at_end = fit
+        by_fit f true g at_end = flight_fit f g at_end
 
-        by_flight : (o : Option Flight) → Comes (hears t r k o)
-        by_flight None covered g at_end = fit
-        by_flight (Some f) covered g at_end = by_fit f (answer_fits f.op r.answer) covered g at_end
+        by_flight : (o : Option Flight) → Hearing (hears t r k o)
+        by_flight None g at_end = fit
+        by_flight (Some f) g at_end = by_fit f (answer_fits f.op r.answer) g at_end
 
-        by_life : (b : Bool) → Comes (replied t r k b)
-        by_life false covered g at_end = fit
-        by_life true covered g at_end = by_flight (find_flight r.xid.0 (import_of t k.imports).flights) covered g at_end
+        by_life : (b : Bool) → Hearing (replied t r k b)
+        by_life false g at_end = fit
+        by_life true g at_end = by_flight (find_flight r.xid.0 (import_of t k.imports).flights) g at_end
 
   -- ---- what begins a turn
 
@@ -385,46 +503,62 @@ module _ (head : table.Head) (c : ℕ) (stamp : Stamp) where
     came : (s : ℕ) → NotCame (call_at c s p)
     low : (s : ℕ) → 4 ≤ s → call_at c s p ≡ None
 
-  takes_fit : (p : List Line) (n : ℕ) (from : Node) (m : Message) → Start p → Sent p n from (Client c) m → EntriesCovered (comes_by at from m (client_of head c p))
-      → Grown few (with_turn at (comes_by at from m (client_of head c p)) (line at (Take n from m) ∷ p)) → Fit c (with_turn at (comes_by at from m (client_of head c p)) (line at (Take n from m) ∷ p))
-  takes_fit p n (Client d) m s sent covered g = absurd (comes_to few p (Client d) c m s.starts.grown (sent_was p n (Client d) (Client c) m sent))
-  takes_fit p n (Target t) m s sent covered g = by m sent refl covered g (comes_to few p (Target t) c m s.starts.grown (sent_was p n (Target t) (Client c) m sent))
+  takes_fit : (p : List Line) (n : ℕ) (from : Node) (m : Message) → Start p → Sent p n from (Client c) m → Grown few (with_turn at (comes_by at from m (client_of head c p)) (line at (Take n from m) ∷ p))
+      → Fit c (with_turn at (comes_by at from m (client_of head c p)) (line at (Take n from m) ∷ p))
+  takes_fit p n (Client d) m s sent g = absurd (comes_to few p (Client d) c m s.starts.grown (sent_was p n (Client d) (Client c) m sent))
+  takes_fit p n (Target t) m s sent g = by m sent g (comes_to few p (Target t) c m s.starts.grown (sent_was p n (Target t) (Client c) m sent))
     where
-      use_light : (x : Message) (es : List Entry) → Light es → Fit c (with_turn at es (line at (Take n (Target t) x) ∷ p))
-      use_light x es light = fit_lights head c stamp es (line at (Take n (Target t) x) ∷ p) light (fit_light head c stamp p (Take n (Target t) x) tt s.fit)
-
       k : ClientState
       k = client_of head c p
 
-      by : (x : Message) → Sent p n (Target t) (Client c) x → x ≡ x → EntriesCovered (comes_from at t x k) → Grown few (with_turn at (comes_from at t x k) (line at (Take n (Target t) x) ∷ p)) → ComesTo (Target t) x
-          → Fit c (with_turn at (comes_from at t x k) (line at (Take n (Target t) x) ∷ p))
-      by (message.Reply r) sent e covered g to =
-          reply_fit p n t r (fit_light head c stamp p (Take n (Target t) (message.Reply r)) tt s.fit) s.came covered g
-          (came_at head c stamp _ (reply_after head c stamp p n t r s.starts (was_there head.osts t (Client c) (message.Reply r) p s.starts.there (sent_was p n (Target t) (Client c) (message.Reply r) sent)) sent covered))
-      by (message.Block who boot cookie) sent e covered g to = use_light (message.Block who boot cookie) _ (blocks (same_life who k.who) covered)
-        where
-          blocks : (b : Bool) → EntriesCovered (blocked (named (record { 0 = t }) cookie) k b) → Light (blocked (named (record { 0 = t }) cookie) k b)
-          blocks true covered = blocked_light (named (record { 0 = t }) cookie) k covered
-          blocks false covered = tt
-      by (message.Up boot) sent e covered g to = use_light (message.Up boot) _ (ups (nat_lt (import_of t k.imports).boot boot) covered)
-        where
-          ups : (b : Bool) → EntriesCovered (up_heard t boot k b) → Light (up_heard t boot k b)
-          ups true covered = let j = turn_of k (Knows t boot ∷ []) in (tt, up_light t j (import_of t j.imports) (import_of t j.imports).standing covered.1)
-          ups false covered = tt
-      by (message.Ready who boot committed) sent e covered g to = use_light (message.Ready who boot committed) _ (readies (is_present who boot t k) covered)
-        where
-          readies : (b : Bool) → EntriesCovered (ready_heard t boot committed.0 k b) → Light (ready_heard t boot committed.0 k b)
-          readies true covered = ready_light t boot committed.0 k covered
-          readies false covered = tt
-      by (message.Evicted who boot) sent e covered g to = ends (same_life who k.who)
-        where
-          p1 : List Line
-          p1 = line at (Take n (Target t) (message.Evicted who boot)) ∷ p
+      taken : Message → List Line
+      taken x = line at (Take n (Target t) x) ∷ p
 
-          ends : (b : Bool) → Fit c (with_turn at (evicted_heard at k b) p1)
-          ends true = evicted_fit k p1 refl s.low (fit_light head c stamp p (Take n (Target t) (message.Evicted who boot)) tt s.fit)
-          ends false = fit_light head c stamp p (Take n (Target t) (message.Evicted who boot)) tt s.fit
-      by x sent e covered g to = absurd to
+      took : (x : Message) → Fit c (taken x)
+      took x = fit_light head c stamp p (Take n (Target t) x) tt s.fit
+
+      there : (x : Message) → Sent p n (Target t) (Client c) x → t ≤ head.osts
+      there x sent = was_there head.osts t (Client c) x p s.starts.there (sent_was p n (Target t) (Client c) x sent)
+
+      -- a lock that waited is granted
+      grants : (g : GrantNotice) (b : Bool) → Grown few (with_turn at (granted t g k b) (taken (message.Grant g))) → CameAt head c stamp (with_turn at (granted t g k b) (taken (message.Grant g)))
+          → Fit c (with_turn at (granted t g k b) (taken (message.Grant g)))
+      grants g false gr came = took (message.Grant g)
+      grants g true gr came = on (waiter (named (record { 0 = t }) g.cookie) 0 k.calls) gr came
+        where
+          calls : (slot : ℕ) (x : Option Running) → call_on slot (calls_at c p) ≡ x → Grown few (with_turn at (on_running (lock_granted t g) slot x) (taken (message.Grant g)))
+              → CameAt head c stamp (with_turn at (on_running (lock_granted t g) slot x) (taken (message.Grant g))) → Fit c (with_turn at (on_running (lock_granted t g) slot x) (taken (message.Grant g)))
+          calls slot None e gr came = took (message.Grant g)
+          calls slot (Some r) e gr came = granted_fit head c stamp p n t g slot r (call_on_is c slot p r e) s.came (took (message.Grant g)) gr came
+
+          on : (o : Option ℕ) → Grown few (with_turn at (on_slot (lock_granted t g) o k) (taken (message.Grant g))) → CameAt head c stamp (with_turn at (on_slot (lock_granted t g) o k) (taken (message.Grant g)))
+              → Fit c (with_turn at (on_slot (lock_granted t g) o k) (taken (message.Grant g)))
+          on None gr came = took (message.Grant g)
+          on (Some slot) gr came = calls slot (call_on slot (calls_at c p)) refl gr came
+
+      by : (x : Message) → Sent p n (Target t) (Client c) x → Grown few (with_turn at (comes_from at t x k) (taken x)) → ComesTo (Target t) x → Fit c (with_turn at (comes_from at t x k) (taken x))
+      by (message.Reply r) sent g to = reply_fit p n t r (took (message.Reply r)) s.came g (came_at head c stamp _ (reply_after head c stamp p n t r s.starts (there (message.Reply r) sent) sent).0)
+      by (message.Grant g) sent gr to = grants g (is_present g.who g.boot t k) gr (came_at head c stamp _ (grant_after head c stamp p n t g s.starts (there (message.Grant g) sent) sent).0)
+      by (message.Block who boot cookie) sent g to = blocked_fit (named (record { 0 = t }) cookie) (same_life who k.who) (taken (message.Block who boot cookie)) (took (message.Block who boot cookie))
+      by (message.Ask who boot cookie for_who xid) sent g to =
+          let a : Question = record { cookie = cookie; for_who = for_who; xid = xid } in
+          fit_lights head c stamp (asked at t a k (same_life who k.who)) (taken (message.Ask who boot cookie for_who xid)) (asked_light t a k (same_life who k.who)) (took (message.Ask who boot cookie for_who xid))
+      by (message.Up boot) sent g to = ups (nat_lt (import_of t k.imports).boot boot)
+        where
+          ups : (b : Bool) → Fit c (with_turn at (up_heard t boot k b) (taken (message.Up boot)))
+          ups true = up_fit t boot (taken (message.Up boot)) (took (message.Up boot))
+          ups false = took (message.Up boot)
+      by (message.Ready who boot committed) sent g to = readies (is_present who boot t k)
+        where
+          readies : (b : Bool) → Fit c (with_turn at (ready_heard t boot committed.0 k b) (taken (message.Ready who boot committed)))
+          readies true = ready_fit t boot committed.0 (taken (message.Ready who boot committed)) (took (message.Ready who boot committed))
+          readies false = took (message.Ready who boot committed)
+      by (message.Evicted who boot) sent g to = ends (same_life who k.who)
+        where
+          ends : (b : Bool) → Fit c (with_turn at (evicted_heard at k b) (taken (message.Evicted who boot)))
+          ends true = evicted_fit k (taken (message.Evicted who boot)) refl s.low (took (message.Evicted who boot))
+          ends false = took (message.Evicted who boot)
+      by x sent g to = absurd to
 
   -- ---- a call begins
 
@@ -490,11 +624,11 @@ module _ (head : table.Head) (c : ℕ) (stamp : Stamp) where
   client_fit p (client.Comes n from m) s meets g after =
       let es = comes_by at from m (client_of head c p) in
       event_then (Take n from m ∷ es) p
-      (λ covered. takes_fit p n from m s meets.1 covered.1 (grown_under few at (rests (limits_of head) at (turn_of (client_of head c p) (Take n from m ∷ es))) (with_turn at (Take n from m ∷ es) p)
+      (λ covered. takes_fit p n from m s meets.1 (grown_under few at (rests (limits_of head) at (turn_of (client_of head c p) (Take n from m ∷ es))) (with_turn at (Take n from m ∷ es) p)
       (subst (Grown few) (turn_more at (Take n from m ∷ es) (rests (limits_of head) at (turn_of (client_of head c p) (Take n from m ∷ es))) p) g))) after
   client_fit p client.Ticks s meets g after =
       let es = ticks 0 (client_of head c p).imports (client_of head c p) in
-      event_then (Tick ∷ es) p (λ covered. fit_lights head c stamp (Tick ∷ es) p (tt, ticks_light 0 (client_of head c p).imports (client_of head c p) covered.1) s.fit) after
+      event_then (Tick ∷ es) p (λ covered. fit_lights head c stamp (Tick ∷ es) p (tt, ticks_light 0 (client_of head c p).imports (client_of head c p)) s.fit) after
   client_fit p client.Dies s meets g after = λ covered. fit_light head c stamp p Die tt s.fit
 
 -- ---- a line of another node
@@ -534,7 +668,7 @@ other_turn c at (e ∷ es) p other fit = other_turn c at es (line at e ∷ p) ot
 waits : (head : table.Head) (c : ℕ) (stamp : Stamp) (past : List Line) → StandsAt head past → Waits4 head c stamp past
 waits head c stamp past s =
     record {
-      came = λ slot. idle_came (calls_at c past) (call_at c slot past) ((s.between c).idle slot);
+      came = λ slot. idle_came (life_at c past) (patches_at c past) (calls_at c past) (call_at c slot past) ((s.between c).idle slot);
       low = λ slot above. by slot above (call_at c slot past) (small_on (covered_head head) c slot past s.grown);
     }
   where
@@ -569,6 +703,7 @@ own_turn head past stamp c event s later meets covered next fit =
         there = s.there;
         alive = lives head past c event meets;
         between = s.between c;
+        awaits = s.awaits c;
         ready = s.ready c;
       };
       came = w.came;

@@ -9,7 +9,7 @@ use Rattle.lu_base.specs.declared.ids.Node.{Node}
 use Rattle.lu_base.specs.declared.ids.Stamp.{Stamp}
 use Rattle.lu_base.specs.declared.ids.Node.TheVariants.{Client, Target}
 use Rattle.lu_base.specs.declared.ids.Who.{Who}
-use Rattle.lu_base.specs.declared.locks.Lock.{Lock}
+use Rattle.lu_msg.specs.declared.answers.Answer.{Answer}
 use Rattle.lu_msg.specs.declared.messages.Message.{Message}
 use Rattle.lu_msg.specs.declared.messages.Message.TheVariants as message
 use Rattle.lu_msg.specs.declared.messages.Request.{Request as RequestOf}
@@ -17,7 +17,7 @@ use Rattle.lu_msg.specs.declared.calls.Call.{Call}
 use Rattle.lu_held.specs.declared.names.LockName.{LockName}
 use Rattle.lu_trace.specs.declared.entries.Entry.{Entry as PrintedEntry}
 use Rattle.lu_trace.specs.declared.entries.Entry.TheVariants as trace
-use Rattle.lu_words.specs.Carried.{Asking, Asked, Answered, Stage, Plain, Bad, Enqueued, Came, Sizes, Work, Running}
+use Rattle.lu_words.specs.Carried.{Asking, Asked, Answered, Stage, Plain, Bad, Looks, Enqueued, Waits, Came, Forgotten, Gets, Sizes, Work, Running}
 use Rattle.lu_words.specs.Words.{Entry, Begin, Send, Take, Heard, Told, Life, Queues, Stands, Die, Evict, Line, line, is_client, same_life}
 use Rattle.lu_words.specs.Concerns.{concerns, only}
 use Rattle.lu_words.specs.Sent.{count_sent, Sent}
@@ -34,7 +34,8 @@ use Rattle.lu_laws.specs.Words.Calls.{open_call}
 use Rattle.lu_laws.specs.Words.Calls as calls
 use Rattle.lu_laws.specs.Words.Requests.{is_of, first_request}
 use Rattle.lu_laws.proofs.Tests.{target_is}
-use Rattle.lu_guards.proofs.Guards.{In, Was, Took, SizesSoFar, SizesStand, LockStand, StatStand, StandsOk, EntryOk}
+use Rattle.lu_guards.proofs.Guards.{In, Was, Took, ReadsOn, ChangesOn, SizesSoFar, SizesStand, LockStand, StatStand, GetStand, FlushStand, LockGranted, MovedStand, StandsOk, TellsOk, EntryOk}
+use Rattle.lu_guards.proofs.Calls.{stands_good as good_then}
 use Rattle.lu_guards.proofs.Grown.{Allowed, Grown}
 use Rattle.lu_guards.proofs.Lists.{self, life_is, who}
 use Rattle.lu_guards.proofs.Parts.{life_is_of}
@@ -258,22 +259,61 @@ evicted_gone t (l ∷ past) w e = by l.at.node l.entry e (evicted_gone t past w)
 
 -- a glimpse that has some sizes isn't on a bad handle
 pub far_good : (past : List Line) (at : At) (r : Running) (sizes : List ℕ) → SizesSoFar past at r sizes → r.stage ≡ Bad → ⊥
-far_good past at r sizes (inl p) bad = let plain : Plain ≡ Bad = sym p.plain ∙ bad in absurd (cc)
-far_good past at r sizes (inr p) bad = let sizing : Sizes p.work ≡ Bad = sym p.stage ∙ bad in absurd (cc)
+far_good past at r sizes (inl p) bad = let e : Plain ≡ Bad = sym p.plain ∙ bad in absurd (cc)
+far_good past at r sizes (inr (inl p)) bad = let e : Sizes p.work ≡ Bad = sym p.stage ∙ bad in absurd (cc)
+far_good past at r sizes (inr (inr (inl p))) bad = ⊎_elim
+    (λ q. let e : Sizes p.work ≡ Bad = sym q.0 ∙ bad in absurd (cc))
+    (λ (q : r.stage ≡ Looks p.work). let e : Looks p.work ≡ Bad = sym q ∙ bad in absurd (cc))
+    p.stage
+far_good past at r sizes (inr (inr (inr p))) bad = let e : Came p.work p.lock ≡ Bad = sym p.stage ∙ bad in absurd (cc)
+
+-- nor is one that a message moves
+from_good : (past : List Line) (at : At) (c : ℕ) (r : Running) (stage : Stage) → MovedStand past at c r stage → r.stage ≡ Bad → ⊥
+from_good past at c r stage (inl p) bad = ⊎_elim
+    (λ q. let e : Enqueued p.work ≡ Bad = sym q.0 ∙ bad in absurd (cc))
+    (λ (q : LockGranted past at r p.work p.lock). let e : Waits p.work q.target q.waiting q.marked ≡ Bad = sym q.stage ∙ bad in absurd (cc))
+    p.from
+from_good past at c r stage (inr (inl p)) bad = let e : Enqueued p.work ≡ Bad = sym p.before ∙ bad in absurd (cc)
+from_good past at c r stage (inr (inr (inl p))) bad = let e : Waits p.work p.target p.lock p.marked ≡ Bad = sym p.before ∙ bad in absurd (cc)
+from_good past at c r stage (inr (inr (inr (inl p)))) bad = let e : Waits p.work p.target p.lock p.marked ≡ Bad = sym p.before ∙ bad in absurd (cc)
+from_good past at c r stage (inr (inr (inr (inr p)))) bad = ⊎_elim
+    (λ q. let e : Forgotten p.work ≡ Bad = sym q.0 ∙ bad in absurd (cc))
+    (λ q. let e : Gets p.work ≡ Bad = sym q.0 ∙ bad in absurd (cc))
+    p.from
+
+pub changes_good : (r : Running) (work : Work) → ChangesOn r work → r.stage ≡ Bad → ⊥
+changes_good r work (inl p) = p.good
+changes_good r work (inr p) = p.good
 
 -- a call that goes on isn't on a bad handle, before nor after
 pub stands_good : (past : List Line) (at : At) (c slot : ℕ) (r : Running) (k : StandsOk past at c slot r) → (k.running.stage ≡ Bad → ⊥) × (k.stage ≡ Bad → ⊥)
-stands_good past at c slot r k = by k.how
+stands_good past at c slot r k = (by k.how, good_then past at c k.running k.stage k.pins k.how)
   where
-    -- it asks for a lock, or got one
-    locks : {A B : Type 0} (work : Work) → ((k.stage ≡ Enqueued work) × A) ⊎ ((lock : Lock) × (k.stage ≡ Came work lock) × B) → k.stage ≡ Bad → ⊥
-    locks work (inl e) bad = let both : Enqueued work ≡ Bad = sym e.0 ∙ bad in absurd (cc)
-    locks work (inr e) bad = let both : Came work e.0 ≡ Bad = sym e.1 ∙ bad in absurd (cc)
+    by : SizesStand past at k.running k.stage k.pins
+        ⊎ LockStand past c k.running k.stage
+        ⊎ StatStand past at c k.running k.stage k.pins
+        ⊎ GetStand past c k.running k.stage k.pins
+        ⊎ FlushStand past c k.running k.stage k.pins
+        ⊎ ((k.pins ≡ k.running.pins) × MovedStand past at c k.running k.stage)
+        → k.running.stage ≡ Bad → ⊥
+    by (inl p) = far_good past at k.running p.sizes p.has.so_far
+    by (inr (inl p)) = ⊎_elim (λ (q : ReadsOn k.running p.work). q.read.good) (changes_good k.running p.work) p.does
+    by (inr (inr (inl p))) = p.stat.good
+    by (inr (inr (inr (inl p)))) = p.does.read.good
+    by (inr (inr (inr (inr (inl p))))) = p.good
+    by (inr (inr (inr (inr (inr p))))) = from_good past at c k.running k.stage p.1
 
-    by : SizesStand past at k.running k.stage k.pins ⊎ LockStand past c k.running k.stage ⊎ StatStand past at c k.running k.stage k.pins → (k.running.stage ≡ Bad → ⊥) × (k.stage ≡ Bad → ⊥)
-    by (inl p) = (far_good past at k.running p.sizes p.so_far, λ bad. let both : Sizes p.work ≡ Bad = sym p.is ∙ bad in absurd (cc))
-    by (inr (inl p)) = (p.read.good, λ bad. locks p.work p.is bad)
-    by (inr (inr p)) = (p.stat.good, λ bad. locks p.work p.is bad)
+-- what is told is told of a call
+pub told_running : (past : List Line) (at : At) (c slot : ℕ) (turn : At) (answer : Answer) (work : Option Work) → TellsOk past at c slot turn answer work → (r : Running) × (call_at c slot past ≡ Some r)
+told_running past at c slot turn answer work (inl k) = (k.running, k.call)
+told_running past at c slot turn answer work (inr (inl k)) = (k.running, k.call)
+told_running past at c slot turn answer work (inr (inr (inl k))) = (k.running, k.call)
+told_running past at c slot turn answer work (inr (inr (inr (inl k)))) = (k.running, k.call)
+told_running past at c slot turn answer work (inr (inr (inr (inr (inl k))))) = (k.running, k.call)
+told_running past at c slot turn answer work (inr (inr (inr (inr (inr (inl k)))))) = (k.running, k.call)
+told_running past at c slot turn answer work (inr (inr (inr (inr (inr (inr (inl k))))))) = (k.running, k.call)
+told_running past at c slot turn answer work (inr (inr (inr (inr (inr (inr (inr (inl k)))))))) = (k.running, k.call)
+told_running past at c slot turn answer work (inr (inr (inr (inr (inr (inr (inr (inr k)))))))) = (k.running, k.call)
 
 -- what holds of each call as it begins, and turns neither on what it asked nor on how far a good one has come, holds of the call in a slot
 -- and the one that stands there by the laws

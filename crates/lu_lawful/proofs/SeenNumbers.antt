@@ -1,42 +1,49 @@
--- The numbers that the law sees in the printed past of a run are those that the metadata target sees in its log: of all transactions the law
--- leaves out the lost ones and the committed ones, and the log has the others, in rising number.
-use Rattle.std.proofs.Common.{◌≡◌, ℕ, ◌≤◌, Bool, true, false, List, [], ◌∷◌, ◌++◌, reverse, inl, inr, ⊎_elim, refl, sym, subst, ap, ◌∙◌, arith}
-use Rattle.std.specs.Prelude.{nat_lt, not, ◌&&◌, if◌then◌else◌, map, filter}
-use Rattle.std.proofs.lemmas.Bool.{and_parts, lt-ltb, ltb-true}
+-- The numbers that the law sees in the printed past of a run are those that a target sees in its log: of all transactions the law leaves out the lost
+-- ones and the committed ones, and the log has the others, in rising number.
+use Rattle.std.proofs.Common.{◌≡◌, ℕ, zero, suc, ◌<◌, ◌≤◌, Bool, true, false, List, [], ◌∷◌, ◌++◌, reverse, ◌⊎◌, inl, inr, ⊎_elim, refl, sym, subst, ap, ◌∙◌, arith}
+use Rattle.std.specs.Prelude.{nat_eq, nat_lt, not, ◌&&◌, if◌then◌else◌, map, filter}
+use Rattle.std.proofs.lemmas.Bool.{and_parts, lt-ltb, ltb-true, eqb-true, not-true}
 use Rattle.std.proofs.lemmas.Grind.{reverse_onto}
+use Rattle.lu_base.specs.declared.ids.At.{At}
 use Rattle.lu_base.specs.declared.ids.Node.{Node}
 use Rattle.lu_base.specs.declared.ids.Node.TheVariants.{Client, Target}
 use Rattle.lu_base.specs.declared.ids.Stamp.{Stamp}
-use Rattle.lu_base.specs.declared.ids.Txn.{Txn}
 use Rattle.lu_part.specs.declared.parts.Part.{Part}
+use Rattle.lu_machine.specs.Objects.{object_writes}
 use Rattle.lu_machine.specs.Seen.{meet}
 use Rattle.lu_words.specs.Carried.{Deed}
-use Rattle.lu_words.specs.Words.{Entry, Act, Txn as Made, Grant, Line, line}
-use Rattle.lu_words.specs.Concerns.{only}
+use Rattle.lu_words.specs.Words.{Entry, Txn as Made, Line, line}
+use Rattle.lu_words.specs.Concerns.{concerns, only}
 use Rattle.lu_words.specs.Printed.{printed}
 use Rattle.lu_covered.specs.TargetParts.{operation}
-use Rattle.lu_covered.specs.TargetStates.{log_at, server_at, server_of, seen_in}
+use Rattle.lu_covered.specs.TargetStates.{server_of, seen_in}
 use Rattle.lu_covered.specs.TargetCloses as story
 use Rattle.lu_covered.specs.Heads.{Head}
 use Rattle.lu_laws.specs.Words.Boots.{committed}
 use Rattle.lu_laws.specs.Words.Lost.{is_lost}
 use Rattle.lu_laws.specs.Words.Seen as law
-use Rattle.lu_laws.specs.Words.Seen.{request_writes, Written, written, is_seen, seen_by}
+use Rattle.lu_laws.specs.Words.Seen.{request_writes, Written, written, is_seen, seen_of, seen_by}
 use Rattle.lu_guards.proofs.Guards.{In}
+use Rattle.lu_guards.proofs.StoryGuards.{WriteOk, TxnsOk}
 use Rattle.lu_guards.proofs.Grown.{Allowed, Grown}
-use Rattle.lu_guards.proofs.Lists.{in_append, in_left, in_right, in_filter, in_filtered}
-use Rattle.lu_guards.proofs.Parts.{log_is}
+use Rattle.lu_guards.proofs.Lists.{self, in_left, in_right, in_filter, in_filtered}
+use Rattle.lu_guards.proofs.Only.{grown_of}
+use Rattle.lu_guards.proofs.ClientRests.{in_reverse}
 use Rattle.lu_facts.proofs.Groups.{turn, Acted, IsMade, DeedsRise, History}
 use Rattle.lu_facts.proofs.HistoryLines.{rises_last, rises_filter}
 use Rattle.lu_facts.proofs.All.{holds}
-use Rattle.lu_facts.proofs.Lines.{acted_whole}
-use Rattle.lu_lawful.specs.Fits.{WasMade}
 use Rattle.lu_lawful.proofs.Facts.{AskedAt, AllAsked}
-use Rattle.lu_lawful.proofs.Deeds.{TxnIs, act_for, txn_is}
-use Rattle.lu_lawful.proofs.Story.{about_it, grant_made, made_story}
+use Rattle.lu_lawful.proofs.Deeds.{txn_is}
+use Rattle.lu_lawful.proofs.Printed.{flip}
 use Rattle.lu_lawful.proofs.Commits.{listed}
+use Rattle.lu_lawful.proofs.CloseLost.{made_of, Fall, made_acted, acted_made, made_fall}
 use Rattle.lu_lawful.proofs.LostNumbers.{lost_is}
 use Rattle.lu_lawful.proofs.Contents.{asked_before, contents_alike}
+
+-- another target than that of the metadata makes puts and cuts
+pub write_at : (osts : ℕ) (past : List Line) (at : At) (t : ℕ) (d : Deed) → 0 < t → TxnsOk osts past at t d → WriteOk osts past at d
+write_at osts past at t d high (inl ok) = absurd (let zero = ok.0 in omega (arith, zero, high))
+write_at osts past at t d high (inr ok) = ok.1
 
 -- ---- rising lists
 
@@ -59,53 +66,15 @@ same_rising (x ∷ xs) (y ∷ ys) r s f g =
 
 -- ---- all transactions, the oldest first
 
-abbrev made_in : List Line → List Deed
-made_in [] = []
-made_in (l ∷ past) = elim l.entry [ Made d ↦ made_in past ++ d ∷ [] | _ ↦ made_in past ]
+reverse_rises : (ds : List Deed) → Fall ds → DeedsRise (reverse ds)
+reverse_rises [] f = tt
+reverse_rises (d ∷ ds) f = subst DeedsRise (sym (reverse_onto ds d [])) (rises_last (reverse ds) d (reverse_rises ds f.1) (λ e i. f.0 e (in_reverse e ds i)))
 
-in_made : (head : Head) (past : List Line) (d : Deed) → Grown head past → In d (made_in past) → Acted past d × IsMade d
-in_made head [] d g i = absurd i
-in_made head (l ∷ past) d g i = by l.at.node l.entry g.0 i (in_made head past d g.1)
-  where
-    by : (node : Node) (e : Entry) → Allowed head past (turn l.at.stamp node) e → In d (made_in (line (turn l.at.stamp node) e ∷ past)) → (In d (made_in past) → Acted past d × IsMade d) → Acted (line (turn l.at.stamp node) e ∷ past) d × IsMade d
-    by (Client c) (Made x) k i ih = absurd k.ok
-    by (Target t) (Made x) k i ih = ⊎_elim
-        (λ (j : In d (made_in past)). let r = ih j in (inr r.0, r.1))
-        (λ (j : In d (x ∷ [])). ⊎_elim
-        (λ (e : x ≡ d). let n = (txn_is head past l.at.stamp t x k).number in (inl e, subst IsMade e (omega (arith, n))))
-        (λ (v : ⊥). absurd v) j)
-        (in_append d (made_in past) (x ∷ []) i)
-    by node (Act x) k i ih = let r = ih i in (inr r.0, r.1)
-    by node (Grant lock asked) k i ih = let r = ih i in (inr r.0, r.1)
-    by node e k i ih = ih i
-
-made_there : (head : Head) (past : List Line) (d : Deed) → Grown head past → Acted past d → IsMade d → In d (made_in past)
-made_there head [] d g a made = absurd a
-made_there head (l ∷ past) d g a made = by l.at.node l.entry g.0 a (λ b. made_there head past d g.1 b made)
-  where
-    by : (node : Node) (e : Entry) → Allowed head past (turn l.at.stamp node) e → Acted (line (turn l.at.stamp node) e ∷ past) d → (Acted past d → In d (made_in past)) → In d (made_in (line (turn l.at.stamp node) e ∷ past))
-    by node (Made x) k (inl e) ih = in_right d (made_in past) (x ∷ []) (inl e)
-    by node (Made x) k (inr b) ih = in_left d (made_in past) (x ∷ []) (ih b)
-    by (Client c) (Act x) k i ih = absurd k.ok
-    by (Target t) (Act x) k (inl e) ih = absurd (let zero : d.reply.txn.0 ≡ 0 = ap (λ (v : Deed). v.reply.txn.0) (sym e) ∙ ap (λ (n : Txn). n.0) (act_for head past l.at.stamp t x k).number in omega (arith, zero, made))
-    by (Target t) (Act x) k (inr b) ih = ih b
-    by node (Grant lock asked) k (inl q) ih = ih (grant_made head past l.at.stamp node lock asked d k q made)
-    by node (Grant lock asked) k (inr b) ih = ih b
-    by node e k b ih = ih b
-
-made_rises : (head : Head) (past : List Line) → Grown head past → DeedsRise (made_in past)
-made_rises head [] g = tt
-made_rises head (l ∷ past) g = by l.at.node l.entry g.0 (made_rises head past g.1)
-  where
-    by : (node : Node) (e : Entry) → Allowed head past (turn l.at.stamp node) e → DeedsRise (made_in past) → DeedsRise (made_in (line (turn l.at.stamp node) e ∷ past))
-    by (Client c) (Made x) k h = absurd k.ok
-    by (Target t) (Made x) k h =
-        rises_last (made_in past) x h
-        (λ e i. let m = in_made head past e g.1 i in
-        let most = ((holds head past g.1).at 0).history.last e (made_story head past e g.1 m.0 m.1) m.1 in
-        let n = ap (λ (v : Deed). v.reply.txn.0) (k.of 0 (about_it t k.ok)).is in
-        omega (arith, most, n))
-    by node e k h = h
+in_reversed : (d : Deed) (ds : List Deed) → In d ds → In d (reverse ds)
+in_reversed d [] i = absurd i
+in_reversed d (e ∷ ds) i =
+    subst (λ (xs : List Deed). In d xs) (sym (reverse_onto ds e []))
+    (⊎_elim (λ (q : e ≡ d). in_right d (reverse ds) (e ∷ []) (inl q)) (λ (j : In d ds). in_left d (reverse ds) (e ∷ []) (in_reversed d ds j)) i)
 
 -- ---- what they wrote, by the law
 
@@ -120,28 +89,51 @@ written_snoc : (ds : List Deed) (d : Deed) → all_written (ds ++ d ∷ []) ≡ 
 written_snoc [] d = refl
 written_snoc (x ∷ ds) d = ap (λ (ws : List Written). as_written x ∷ ws) (written_snoc ds d)
 
-written_is : (head : Head) (past : List Line) → Grown head past → AllAsked past → reverse (written head.osts 0 (printed past)) ≡ all_written (made_in past)
-written_is head [] g a = refl
-written_is head (l ∷ past) g a = by l.at.node l.entry g.0 a (written_is head past g.1 (asked_before l past a))
-  where
-    made : (stamp : Stamp) (d : Deed) → AllAsked past → AskedAt past d → TxnIs head.osts (server_at head.osts 0 past) (turn stamp (Target 0)) d → reverse (written head.osts 0 (printed past)) ≡ all_written (made_in past)
-        → reverse (written head.osts 0 (printed (line (turn stamp (Target 0)) (Made d) ∷ past))) ≡ all_written (made_in past ++ d ∷ [])
-    made stamp d a asks is h =
-        let ws = written head.osts 0 (printed past) in
-        let wrote : request_writes head.osts 0 (printed past) d.reply.txn d.reply.who d.reply.xid.0 ≡ d.writes = ap (λ o. law.writes_of head.osts 0 (printed past) d.reply.txn d.reply.who o) asks ∙ (contents_alike head past g.1 a (operation d)).writes ∙ sym is.wrote in
-        reverse_onto ws (record { number = d.reply.txn.0; writes = request_writes head.osts 0 (printed past) d.reply.txn d.reply.who d.reply.xid.0 }) []
-        ∙ ap (λ (ps : List Part). reverse ws ++ record { number = d.reply.txn.0; writes = ps } ∷ []) wrote
-        ∙ ap (λ (xs : List Written). xs ++ as_written d ∷ []) h
-        ∙ sym (written_snoc (made_in past) d)
+written_back : (ds : List Deed) → reverse (all_written ds) ≡ all_written (reverse ds)
+written_back [] = refl
+written_back (d ∷ ds) =
+    reverse_onto (all_written ds) (as_written d) []
+    ∙ ap (λ (ws : List Written). ws ++ as_written d ∷ []) (written_back ds)
+    ∙ sym (written_snoc (reverse ds) d)
+    ∙ ap all_written (sym (reverse_onto ds d []))
 
-    by : (node : Node) (e : Entry) → Allowed head past (turn l.at.stamp node) e → AllAsked (line (turn l.at.stamp node) e ∷ past) → reverse (written head.osts 0 (printed past)) ≡ all_written (made_in past)
-        → reverse (written head.osts 0 (printed (line (turn l.at.stamp node) e ∷ past))) ≡ all_written (made_in (line (turn l.at.stamp node) e ∷ past))
+-- of one transaction
+wrote : (head : Head) (past : List Line) (stamp : Stamp) (t : ℕ) (d : Deed) → Grown head past → AllAsked past → AskedAt t past d → Allowed head past (turn stamp (Target t)) (Made d)
+    → request_writes head.osts t (printed past) d.reply.txn d.reply.who d.reply.xid.0 ≡ d.writes
+wrote head past stamp zero d g a asks k =
+    ap (λ o. law.writes_of head.osts 0 (printed past) d.reply.txn d.reply.who o) asks ∙ (contents_alike head past g a (operation d)).writes ∙ sym (txn_is head past stamp d k).wrote
+wrote head past stamp (suc t) d g a asks k =
+    let ok = write_at head.osts (only (suc t) past) (turn stamp (Target (suc t))) (suc t) d (omega arith) (k.of (suc t) (self (suc t))) in
+    ap (λ o. law.writes_of head.osts (suc t) (printed past) d.reply.txn d.reply.who o) asks ∙ ap (λ (e : Deed). object_writes e.op) ok.is ∙ sym (ap (λ (e : Deed). e.writes) ok.is)
+
+written_is : (head : Head) (t : ℕ) (past : List Line) → Grown head past → AllAsked past → written head.osts t (printed past) ≡ all_written (made_of (only t past))
+written_is head t [] g a = refl
+written_is head t (l ∷ past) g a = by l.at.node l.entry g.0 a (written_is head t past g.1 (asked_before l past a))
+  where
+    P : List Line
+    P = only t past
+
+    W : List Written
+    W = written head.osts t (printed past)
+
+    quiet : (node : Node) (e : Entry) (b : Bool) → made_of (line (turn l.at.stamp node) e ∷ P) ≡ made_of P → W ≡ all_written (made_of P) → W ≡ all_written (made_of (if b then line (turn l.at.stamp node) e ∷ P else P))
+    quiet node e true q h = h ∙ ap all_written (sym q)
+    quiet node e false q h = h
+
+    own : (u : ℕ) (d : Deed) (a b : Bool) → a ≡ b → (b ≡ true → request_writes head.osts t (printed past) d.reply.txn d.reply.who d.reply.xid.0 ≡ d.writes) → W ≡ all_written (made_of P)
+        → (if a then record { number = d.reply.txn.0; writes = request_writes head.osts t (printed past) d.reply.txn d.reply.who d.reply.xid.0 } ∷ W else W) ≡ all_written (made_of (if b then line (turn l.at.stamp (Target u)) (Made d) ∷ P else P))
+    own u d true true q w h = ap (λ (ps : List Part). record { number = d.reply.txn.0; writes = ps } ∷ W) (w refl) ∙ ap (λ (ws : List Written). as_written d ∷ ws) h
+    own u d false false q w h = h
+    own u d true false q w h = absurd (cc)
+    own u d false true q w h = absurd (cc)
+
+    by : (node : Node) (e : Entry) → Allowed head past (turn l.at.stamp node) e → AllAsked (line (turn l.at.stamp node) e ∷ past) → W ≡ all_written (made_of P)
+        → written head.osts t (printed (line (turn l.at.stamp node) e ∷ past)) ≡ all_written (made_of (only t (line (turn l.at.stamp node) e ∷ past)))
     by (Client c) (Made d) k a h = absurd k.ok
-    by (Target t) (Made d) k a h =
-        let is = txn_is head past l.at.stamp t d k in
-        subst (λ (v : ℕ). reverse (written head.osts 0 (printed (line (turn l.at.stamp (Target v)) (Made d) ∷ past))) ≡ all_written (made_in past ++ d ∷ [])) (sym k.ok)
-        (made l.at.stamp d a.1 a.0 (subst (λ (v : ℕ). TxnIs head.osts (server_at head.osts 0 past) (turn l.at.stamp (Target v)) d) k.ok is) h)
-    by _ _ k a h = h
+    by (Target u) (Made d) k a h = own u d (nat_eq u t) (nat_eq t u) (flip u t)
+        (λ e. let same = eqb-true t u e in wrote head past l.at.stamp t d g.1 a.1 (a.0 t (ap Target (sym same))) (subst (λ (v : ℕ). Allowed head past (turn l.at.stamp (Target v)) (Made d)) (sym same) k)) h
+    by (Client c) e k a h = quiet (Client c) e (concerns t (Client c) e) refl h
+    by (Target u) e k a h = quiet (Target u) e (concerns t (Target u) e) refl h
 
 -- ---- what is seen of them
 
@@ -174,48 +166,48 @@ seen_written above lost touched test (d ∷ ds) same = by (nat_lt above n) (lost
     by false c true e h = absurd (cc)
 
 -- those above the committed number that stand are the log
-log_of_all : (head : Head) (past : List Line) → Grown head past
-    → filter (λ (d : Deed). nat_lt (server_of head.osts (only 0 past)).committed.0 d.reply.txn.0 && not (story.is_lost head.osts (only 0 past) d.reply.txn.0)) (made_in past) ≡ (server_of head.osts (only 0 past)).log
-log_of_all head past g =
-    same_rising (filter stands (made_in past)) (server_of head.osts (only 0 past)).log (rises_filter stands (made_in past) (made_rises head past g)) history.log_rises
-    (λ d i.
-    let p = in_filter stands d (made_in past) i in
-    let m = in_made head past d g p.0 in
-    let q = and_parts (nat_lt committed_so d.reply.txn.0) (not (story.is_lost head.osts (only 0 past) d.reply.txn.0)) p.1 in
-    let lt = ltb-true committed_so d.reply.txn.0 q.0 in
-    ⊎_elim (λ (j : In d (server_of head.osts (only 0 past)).log). j) (λ (le : d.reply.txn.0 ≤ committed_so). absurd (omega (arith, lt, le)))
-    (history.logged d (made_story head past d g m.0 m.1) m.1 (no (story.is_lost head.osts (only 0 past) d.reply.txn.0) q.1)))
-    (λ d i.
-    let r = history.log d i in
-    in_filtered stands d (made_in past) (made_there head past d g (acted_whole 0 past d r.0) r.1) (rw (lt-ltb committed_so d.reply.txn.0 r.3, r.2) refl))
-  where
-    history : History head.osts head.clients (only 0 past)
-    history = ((holds head past g).at 0).history
+module _ (head : Head) (t : ℕ) (past : List Line) (g : Grown head past) where
+  abbrev history : History head.osts head.clients (only t past)
+  history = ((holds head past g).at t).history
 
-    committed_so : ℕ
-    committed_so = (server_of head.osts (only 0 past)).committed.0
+  abbrev all_made : List Deed
+  all_made = reverse (made_of (only t past))
 
-    stands : Deed → Bool
-    stands d = nat_lt committed_so d.reply.txn.0 && not (story.is_lost head.osts (only 0 past) d.reply.txn.0)
+  abbrev committed_so : ℕ
+  committed_so = (server_of head.osts (only t past)).committed.0
 
-    no : (b : Bool) → not b ≡ true → b ≡ false
-    no true e = absurd (cc)
-    no false e = refl
+  abbrev stands : Deed → Bool
+  stands d = nat_lt committed_so d.reply.txn.0 && not (story.is_lost head.osts (only t past) d.reply.txn.0)
 
--- what is seen, where the committed number by the lines is that of the story
-pub seen_is : (head : Head) (past : List Line) (touched : List Part) → Grown head past → AllAsked past → committed 0 (printed past) ≡ (server_of head.osts (only 0 past)).committed.0
-    → seen_by head.osts 0 (printed past) touched ≡ seen_in touched (log_at 0 past)
-seen_is head past touched g a level =
-    ap (λ (ws : List Written). map (λ (w : Written). w.number) (filter (is_seen (committed 0 (printed past)) (is_lost (printed past) 0) touched) ws)) (written_is head past g a)
-    ∙ seen_written (committed 0 (printed past)) (is_lost (printed past) 0) touched stands (made_in past) same
-    ∙ ap (seen_in touched) (log_of_all head past g ∙ sym (log_is head.osts 0 past))
-  where
-    stands : Deed → Bool
-    stands d = nat_lt (server_of head.osts (only 0 past)).committed.0 d.reply.txn.0 && not (story.is_lost head.osts (only 0 past) d.reply.txn.0)
+  made_so : (d : Deed) → In d all_made → Acted (only t past) d × IsMade d
+  made_so d i = made_acted head (only t past) (grown_of head t past g) d (in_reverse d (made_of (only t past)) i)
 
-    same : (d : Deed) → In d (made_in past) → (nat_lt (committed 0 (printed past)) d.reply.txn.0 && not (is_lost (printed past) 0 d.reply.txn.0)) ≡ stands d
-    same d i =
-        let m = in_made head past d g i in
-        let made : WasMade past d.reply.txn.0 = (listed head 0 past d g (made_story head past d g m.0 m.1) m.1).made in
-        ap (λ (n : ℕ). nat_lt n d.reply.txn.0 && not (is_lost (printed past) 0 d.reply.txn.0)) level
-        ∙ ap (λ (b : Bool). nat_lt (server_of head.osts (only 0 past)).committed.0 d.reply.txn.0 && not b) (lost_is head past g d.reply.txn.0 made)
+  log_of_all : filter stands all_made ≡ (server_of head.osts (only t past)).log
+  log_of_all =
+      same_rising (filter stands all_made) (server_of head.osts (only t past)).log
+      (rises_filter stands all_made (reverse_rises (made_of (only t past)) (made_fall head (only t past) (grown_of head t past g)))) history.log_rises
+      (λ d i.
+      let p = in_filter stands d all_made i in
+      let m = made_so d p.0 in
+      let q = and_parts (nat_lt committed_so d.reply.txn.0) (not (story.is_lost head.osts (only t past) d.reply.txn.0)) p.1 in
+      let lt = ltb-true committed_so d.reply.txn.0 q.0 in
+      ⊎_elim (λ (j : In d (server_of head.osts (only t past)).log). j) (λ (le : d.reply.txn.0 ≤ committed_so). absurd (omega (arith, lt, le)))
+      (history.logged d m.0 m.1 (not-true (story.is_lost head.osts (only t past) d.reply.txn.0) q.1)))
+      (λ d i.
+      let r = history.log d i in
+      in_filtered stands d all_made (in_reversed d (made_of (only t past)) (acted_made head (only t past) (grown_of head t past g) d r.0 r.1)) (rw (lt-ltb committed_so d.reply.txn.0 r.3, r.2) refl))
+
+  -- what is seen, where the committed number by the lines is that of the story
+  pub seen_is : (touched : List Part) → AllAsked past → committed t (printed past) ≡ (server_of head.osts (only t past)).committed.0
+      → seen_by head.osts t (printed past) touched ≡ seen_in touched (server_of head.osts (only t past)).log
+  seen_is touched a level =
+      ap (λ (ws : List Written). seen_of (committed t (printed past)) (is_lost (printed past) t) touched ws) (written_is head t past g a)
+      ∙ ap (λ (ws : List Written). map (λ (w : Written). w.number) (filter (is_seen (committed t (printed past)) (is_lost (printed past) t) touched) ws)) (written_back (made_of (only t past)))
+      ∙ seen_written (committed t (printed past)) (is_lost (printed past) t) touched stands all_made same
+      ∙ ap (seen_in touched) log_of_all
+    where
+      same : (d : Deed) → In d all_made → (nat_lt (committed t (printed past)) d.reply.txn.0 && not (is_lost (printed past) t d.reply.txn.0)) ≡ stands d
+      same d i =
+          let m = made_so d i in
+          ap (λ (n : ℕ). nat_lt n d.reply.txn.0 && not (is_lost (printed past) t d.reply.txn.0)) level
+          ∙ ap (λ (b : Bool). nat_lt committed_so d.reply.txn.0 && not b) (lost_is head t past g d.reply.txn.0 (listed head t past d g m.0 m.1).made)

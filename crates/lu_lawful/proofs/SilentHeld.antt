@@ -17,9 +17,10 @@ use Rattle.lu_client_rows.specs.Caches.{held_as, with_held, brought, with_brough
 use Rattle.lu_client_rows.specs.Facts.{Fact, taught, without_facts, facts_at}
 use Rattle.lu_client_rows.specs.Known.{Notes, is_usable}
 use Rattle.lu_covered.specs.Known.{notes_at}
-use Rattle.lu_guards.proofs.Guards.{In, IsFree, EntryOk}
+use Rattle.lu_guards.proofs.Guards.{In, IsFree}
 use Rattle.lu_guards.proofs.Lists.{in_right}
 use Rattle.lu_facts.proofs.Groups.{turn}
+use Rattle.lu_facts.proofs.BareGuards.{BareOk}
 use Rattle.lu_facts.proofs.HeldThere.{There, IsClear, IsIt, in_map, map_in, usable_clear, clear_usable, changed_there, unmarked_there, used_there, with_there, brought_there}
 use Rattle.lu_lawful.proofs.SilentKnown.{Grows}
 
@@ -121,7 +122,7 @@ module _ (c : ℕ) (past : List Line) (stamp : Stamp) where
   abbrev H : List HeldLock
   H = held_at c past
 
-  pub held_stays : (of k : ℕ) (node : Node) (e : Entry) → EntryOk past (turn stamp node) node e → Stays c past node e → Present of k (held_at c past) → Present of k (held_at c (line (turn stamp node) e ∷ past))
+  pub held_stays : (of k : ℕ) (node : Node) (e : Entry) → BareOk past (turn stamp node) node e → Stays c past node e → Present of k (held_at c past) → Present of k (held_at c (line (turn stamp node) e ∷ past))
   held_stays of k (Client d) (Heard t f r) ok stays p =
       cond_both (nat_eq c d) (with_brought t (brought f.op r) H) H (λ (v : List HeldLock). Present of k v)
       (λ o. brought_there Lasts of k (λ u l. inl refl) t (brought f.op r) H p) (λ o. p)
@@ -145,7 +146,7 @@ module _ (c : ℕ) (past : List Line) (stamp : Stamp) where
   held_stays of k (Target t) (Unmarks u) ok stays p = absurd ok
   held_stays of k _ _ ok stays p = p
 
-  facts_stay : (x : Fact) (node : Node) (e : Entry) → EntryOk past (turn stamp node) node e → gives_up c node e ≡ false → In x (facts_at c past) → In x (facts_at c (line (turn stamp node) e ∷ past))
+  facts_stay : (x : Fact) (node : Node) (e : Entry) → BareOk past (turn stamp node) node e → gives_up c node e ≡ false → In x (facts_at c past) → In x (facts_at c (line (turn stamp node) e ∷ past))
   facts_stay x (Client d) (Learns t o a locks) ok stays i =
       cond_both (nat_eq c d) (taught o a locks ++ facts_at c past) (facts_at c past) (λ (v : List Fact). In x v)
       (λ q. in_right x (taught o a locks) (facts_at c past) i) (λ q. i)
@@ -157,7 +158,7 @@ module _ (c : ℕ) (past : List Line) (stamp : Stamp) where
   facts_stay x _ _ ok stays i = i
 
   -- a line gives a client more, unless a lock or the life is given up, or a pinned lock marked
-  pub notes_grow : (node : Node) (e : Entry) → EntryOk past (turn stamp node) node e → Stays c past node e → Grows (bare_at c past) (bare_at c (line (turn stamp node) e ∷ past))
+  pub notes_grow : (node : Node) (e : Entry) → BareOk past (turn stamp node) node e → Stays c past node e → Grows (bare_at c past) (bare_at c (line (turn stamp node) e ∷ past))
   notes_grow node e ok stays =
       grows_bare (facts_at c past) (facts_at c (line (turn stamp node) e ∷ past)) (held_at c past) (held_at c (line (turn stamp node) e ∷ past))
       (λ x i. facts_stay x node e ok stays.0 i) (λ k p. held_stays 0 k node e ok stays p)

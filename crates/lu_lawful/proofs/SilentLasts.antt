@@ -1,5 +1,5 @@
 -- A held lock on an object that is pinned isn't marked: none is called back.
-use Rattle.std.proofs.Common.{◌≡◌, ℕ, ◌<◌, true, false, List, [], ◌∷◌, ◌⊎◌, inl, inr, ⊎_elim, refl, sym, subst, ap, ◌∙◌, arith}
+use Rattle.std.proofs.Common.{◌≡◌, ℕ, zero, suc, ◌<◌, true, false, List, [], ◌∷◌, ◌⊎◌, inl, inr, ⊎_elim, refl, sym, subst, ap, ◌∙◌, arith}
 use Rattle.std.specs.Prelude.{nat_eq, if◌then◌else◌}
 use Rattle.std.proofs.lemmas.Bool.{cond_both, eqb-true}
 use Rattle.lu_base.specs.declared.ids.At.{At}
@@ -16,16 +16,20 @@ use Rattle.lu_held.specs.declared.locks.HeldLock.{HeldLock}
 use Rattle.lu_held.specs.declared.names.LockName.{LockName}
 use Rattle.lu_held.specs.Locks.{named, is_named, after}
 use Rattle.lu_held.specs.Held.{changed, used, without, unmarked}
-use Rattle.lu_words.specs.Words.{Entry, Take, Heard, Hold, Drop, Pins, Unpins, Marks, Unmarks, Line, line}
-use Rattle.lu_words.specs.Sent.{Sent}
+use Rattle.lu_words.specs.Carried.{Called}
+use Rattle.lu_words.specs.Words.{Entry, Send, Heard, Hold, Drop, Pins, Unpins, Marks, Unmarks, Line, line}
+use Rattle.lu_words.specs.Concerns.{concerns, only}
 use Rattle.lu_client_rows.specs.Caches.{held_as, with_held, brought, with_brought, held_at}
+use Rattle.lu_target_rows.specs.Replies.{is_called}
 use Rattle.lu_covered.specs.Heads.{Head}
-use Rattle.lu_guards.proofs.Guards.{In, TookNow, IsFree, CallsBack, EntryOk}
-use Rattle.lu_guards.proofs.Grown.{Grown}
-use Rattle.lu_guards.proofs.Lists.{turn}
-use Rattle.lu_guards.proofs.Only.{sent_was}
-use Rattle.lu_guards.proofs.ClientLines.{comes_to}
+use Rattle.lu_guards.proofs.Guards.{In, Was, TookNow, IsFree, CallsBack}
+use Rattle.lu_guards.proofs.StoryGuards.{CallsOk}
+use Rattle.lu_guards.proofs.Lists.{self, turn}
+use Rattle.lu_guards.proofs.Parts.{called_is}
 use Rattle.lu_guards.proofs.ClientLocks.{with_only, brought_only, changed_only, used_only, without_only, unmarked_only}
+use Rattle.lu_facts.proofs.BareGuards.{BareOk, BareOf, BareGrown, wide}
+use Rattle.lu_facts.proofs.BareSteps.{took_was, took_now}
+use Rattle.lu_facts.proofs.Unlocked.{uncalled_other}
 use Rattle.lu_lawful.proofs.SilentHeld.{Lasts, pin_lasts, unpin_lasts, mark_lasts}
 use Rattle.lu_lawful.proofs.OneWord.{named_target}
 
@@ -44,20 +48,35 @@ changed_last name change held same keeps all h i = by (changed_only name change 
 
 module _ (head : Head) where
   -- locks are called back by the metadata target alone
-  called_first : (past : List Line) (at : At) (d t : ℕ) (who : Who) (boot : ℕ) (cookie : Cookie) → Grown head past → at.node ≡ Client d → TookNow past at (Target t) (message.Block who boot cookie) → t ≡ 0
-  called_first [] at d t who boot cookie g own took = absurd took
-  called_first (l ∷ past) at d t who boot cookie g own took = by l.entry g.0.ok took
+  says_first : (past : List Line) (d t : ℕ) (who : Who) (boot : ℕ) (cookie : Cookie) → BareGrown head past → Was past (Target t) (Client d) (message.Block who boot cookie) → t ≡ 0
+  says_first [] d t who boot cookie g w = absurd w
+  says_first (l ∷ past) d t who boot cookie g w = by l.entry (g.0.of t) w (λ v. says_first past d t who boot cookie g.1 v)
     where
-      by : (e : Entry) → EntryOk past l.at l.at.node e → TookNow (line l.at e ∷ past) at (Target t) (message.Block who boot cookie) → t ≡ 0
-      by (Take n from m) ok k =
-          let to : l.at.node ≡ Client d = ap (λ (v : At). v.node) k.0 ∙ own in
-          let sent : Sent past n (Target t) (Client d) (message.Block who boot cookie) =
-          subst (λ (v : Message). Sent past n (Target t) (Client d) v) k.2 (subst (λ (v : Node). Sent past n v (Client d) m) k.1 (subst (λ (v : Node). Sent past n from v m) to ok.sent)) in
-          comes_to head past (Target t) d (message.Block who boot cookie) g.1 (sent_was past n (Target t) (Client d) (message.Block who boot cookie) sent)
-      by e ok k = absurd k
+      calls : (u : ℕ) → CallsOk head.osts (only u past) d who boot cookie → u ≡ 0
+      calls zero k = refl
+      calls (suc u) k = let none : is_called cookie [] ≡ true = subst (λ (v : List Called). is_called cookie v ≡ true) (sym (called_is head.osts (suc u) past) ∙ uncalled_other head past g.1 (suc u) (λ e. absurd (omega (arith, e)))) k.called in absurd (cc)
+
+      OfLine : Node → Entry → Type 0
+      OfLine node e = concerns t node e ≡ true → BareOf head (only t past) (turn l.at.stamp node) node e
+
+      sends : (to : Node) (x : Message) → OfLine l.at.node (Send to x) → l.at.node ≡ Target t → to ≡ Client d → x ≡ message.Block who boot cookie → t ≡ 0
+      sends to x of n is says =
+          let it : OfLine (Target t) (Send (Client d) (message.Block who boot cookie)) =
+          subst (λ (v : Message). OfLine (Target t) (Send (Client d) v)) says (subst (λ (v : Node). OfLine (Target t) (Send v x)) is (subst (λ (v : Node). OfLine v (Send to x)) n of)) in
+          calls t (it (self t))
+
+      by : (e : Entry) → OfLine l.at.node e → Was (line l.at e ∷ past) (Target t) (Client d) (message.Block who boot cookie) → (Was past (Target t) (Client d) (message.Block who boot cookie) → t ≡ 0) → t ≡ 0
+      by (Send to x) of (inl k) more = sends to x of k.0 k.1 k.2
+      by (Send to x) of (inr k) more = more k
+      by e of k more = more k
+
+  called_first : (past : List Line) (at : At) (d t : ℕ) (who : Who) (boot : ℕ) (cookie : Cookie) → BareGrown head past → at.node ≡ Client d → TookNow past at (Target t) (message.Block who boot cookie) → t ≡ 0
+  called_first past at d t who boot cookie g own took =
+      says_first past d t who boot cookie g
+      (subst (λ (n : Node). Was past (Target t) n (message.Block who boot cookie)) own (took_was head past at (Target t) (message.Block who boot cookie) (wide head past g) (took_now past at (Target t) (message.Block who boot cookie) took)))
 
   module _ (c : ℕ) where
-    pub objects_last : (past : List Line) → Grown head past → AllLast (held_at c past)
+    pub objects_last : (past : List Line) → BareGrown head past → AllLast (held_at c past)
     objects_last [] g = λ h i o. absurd i
     objects_last (l ∷ past) g = by l.at.node l.entry g.0.ok (objects_last past g.1)
       where
@@ -71,7 +90,7 @@ module _ (head : Head) where
             let same = named_target name x t in
             absurd (omega (arith, first, same, o))
 
-        by : (node : Node) (e : Entry) → EntryOk past (turn l.at.stamp node) node e → AllLast H → AllLast (held_at c (line (turn l.at.stamp node) e ∷ past))
+        by : (node : Node) (e : Entry) → BareOk past (turn l.at.stamp node) node e → AllLast H → AllLast (held_at c (line (turn l.at.stamp node) e ∷ past))
         by (Client d) (Heard t f r) ok all =
             cond_both (nat_eq c d) (with_brought t (brought f.op r) H) H (λ (v : List HeldLock). AllLast v)
             (λ own h i o. ⊎_elim (λ (e : (x : Lock) × (held_as t x false ≡ h)). inl (ap (λ (v : HeldLock). v.marked) (sym e.1))) (λ (j : In h H). all h j o) (brought_only t h (brought f.op r) H i))

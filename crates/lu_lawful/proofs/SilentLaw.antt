@@ -42,17 +42,16 @@ use Rattle.lu_laws.specs.Words.Held.{held, has_write_lock}
 use Rattle.lu_laws.specs.Words.Lives.{life, who_is}
 use Rattle.lu_laws.specs.Words.Pasts.{same_turn}
 use Rattle.lu_laws.specs.Words.Repeats.{same_path, same_reading, rebinds, is_error, calm, told_calm, known, is_repeat}
-use Rattle.lu_guards.proofs.Guards.{In, Begins, Starts, StartsRead, StartsStat, OwesBegun, Owes}
-use Rattle.lu_guards.proofs.Guards.{NamesAskOk, SizeAskOk, LockAskOk, QueuesOk, SizesStand, Reads, LacksOf, Lacks, Locked, LockStand, StatStand, StandsOk, ToldOk, KnownOk, EndsOk, BadOk, SizesToldOk, FlushedOk, ReadToldOk, StatToldOk}
-use Rattle.lu_guards.proofs.Grown.{Allowed, Grown}
+use Rattle.lu_guards.proofs.Guards.{In, Starts, StartsRead, StartsStat, NamesAskOk, SizeAskOk, Reads, LacksOf, Locked, ToldOk, KnownOk, EndsOk, BadOk}
 use Rattle.lu_guards.proofs.Lists.{self, in_filter}
 use Rattle.lu_guards.proofs.Turns.{BeginQuiet, Settled}
 use Rattle.lu_guards.proofs.ClientLooks.{lacks_in}
 use Rattle.lu_facts.proofs.Groups.{turn}
+use Rattle.lu_facts.proofs.BareGuards.{BareBegins, BareLockAskOk, BareQueuesOk, BareSizesStand, BareLacks, BareLockStand, BareStatStand, BareStandsOk, BareSizesToldOk, BareReadToldOk, BareStatToldOk, BareFlushedOk, BareOwesBegun, BareOwes, BareAllowed, BareGrown, wide}
 use Rattle.lu_facts.proofs.HeldThere.{of_any, map_in}
 use Rattle.lu_facts.proofs.TaughtKnown.{Agrees}
 use Rattle.lu_lawful.proofs.Printed.{flip}
-use Rattle.lu_lawful.proofs.Lines.{OfPrinted, Keeps, shown, holds_due, Nothing}
+use Rattle.lu_lawful.proofs.Lines.{OfPrinted, Keeps, shown, holds_owed}
 use Rattle.lu_lawful.proofs.Handles.{and_true}
 use Rattle.lu_lawful.proofs.SilentKnown.{Grows, IsKnown, IsReadingCall, known_more, known_told, told_known}
 use Rattle.lu_lawful.proofs.SilentHeld.{bare_at, MarksFree, Stays, Unmarked, grows_to_bare, grows_from_bare, notes_grow, pins_grow, unpins_grow}
@@ -92,29 +91,29 @@ MayTell past at c slot named given work =
     ⊎ KnownOk past at c slot named given work
     ⊎ EndsOk past at c slot named given work
     ⊎ BadOk past at c slot named given work
-    ⊎ SizesToldOk past at c slot named given work
-    ⊎ FlushedOk past at c slot named given work
-    ⊎ ReadToldOk past at c slot named given work
-    ⊎ StatToldOk past at c slot named given work
+    ⊎ BareSizesToldOk past at c slot named given work
+    ⊎ BareFlushedOk past at c slot named given work
+    ⊎ BareReadToldOk past at c slot named given work
+    ⊎ BareStatToldOk past at c slot named given work
 
 module _ (head : Head) (c : ℕ) where
   -- a line that gives up no lock and no life, and marks no pinned lock, keeps it, where it doesn't begin a call that opens or closes its handle
-  still : (past : List Line) (l : Line) → Grown head (l ∷ past) → Stays c past l.at.node l.entry → (k : Call) → KeepsHandles c l.at.node l.entry k → KnownAt c past k → KnownAt c (l ∷ past) k
+  still : (past : List Line) (l : Line) → BareGrown head (l ∷ past) → Stays c past l.at.node l.entry → (k : Call) → KeepsHandles c l.at.node l.entry k → KnownAt c past k → KnownAt c (l ∷ past) k
   still past l g stays k keeps =
-      by_more (bare_at c past) (bare_at c (l ∷ past)) (files_at c past) (files_at c (l ∷ past)) (Locked c past) (Locked c (l ∷ past)) k (notes_grow c past l.at.stamp l.at.node l.entry g.0.ok stays) (agrees head c (l ∷ past) g)
+      by_more (bare_at c past) (bare_at c (l ∷ past)) (files_at c past) (files_at c (l ∷ past)) (Locked c past) (Locked c (l ∷ past)) k (notes_grow c past l.at.stamp l.at.node l.entry g.0.ok stays) (agrees head c (l ∷ past) (wide head (l ∷ past) g))
       (λ h offset count f is bound. file_still head c h offset count l past f g stays.0 (subst (λ (v : Call). KeepsHandles c l.at.node l.entry v) is keeps) bound)
       (λ u locked. locked_still head c l past u g stays locked)
 
   -- the call that is told
-  told_one : (past : List Line) (at : At) (slot : ℕ) (named : At) (given : Answer) (work : Option Work) → Grown head past → at.node ≡ Client c → MayTell past at c slot named given work → is_error given ≡ false
+  told_one : (past : List Line) (at : At) (slot : ℕ) (named : At) (given : Answer) (work : Option Work) → BareGrown head past → at.node ≡ Client c → MayTell past at c slot named given work → is_error given ≡ false
       → (x : ℕ × Call) → In x (calm (who_is c (printed past)) (printed past)) → x.0 ≡ slot → KnownAt c past x.1
   told_one past at slot named given work g own ok fine x i is = by ok
     where
       -- it is the call in the slot
       the_call : (r : Running) → call_at c slot past ≡ Some r → r.call ≡ x.1
       the_call r e =
-          let stands : call_in c x.0 (printed past) ≡ Some x.1 = every_in (StandsIn (λ k. call_in c k (printed past))) x (calm (who_is c (printed past)) (printed past)) (calm_stands head c past g) i in
-          let here : call_in c slot (printed past) ≡ Some r.call = call_is head c slot past g ∙ ap called e in
+          let stands : call_in c x.0 (printed past) ≡ Some x.1 = every_in (StandsIn (λ k. call_in c k (printed past))) x (calm (who_is c (printed past)) (printed past)) (calm_stands head c past (wide head past g)) i in
+          let here : call_in c slot (printed past) ≡ Some r.call = call_is head c slot past (wide head past g) ∙ ap called e in
           let there : call_in c slot (printed past) ≡ Some x.1 = subst (λ (v : ℕ). call_in c v (printed past) ≡ Some x.1) is stands in
           cc
 
@@ -123,9 +122,9 @@ module _ (head : Head) (c : ℕ) where
       other r e knows read = subst (λ (v : Call). KnownAt c past v) (the_call r e) (inl (knows, read))
 
       by : MayTell past at c slot named given work → KnownAt c past x.1
-      by (inl a) = other a.running a.call (told_is_known head c slot past at named given work g (agrees head c past g) own a (no_refusal given fine) x i is) (names_read c past a.running.file a.running.call a.names.0 a.names.1)
+      by (inl a) = other a.running a.call (told_is_known head c slot past at named given work g (agrees head c past (wide head past g)) own a (no_refusal given fine) x i is) (names_read c past a.running.file a.running.call a.names.0 a.names.1)
       by (inr (inl a)) =
-          other a.running a.call (known_more (notes_at c past) (bare_at c past) (grows_to_bare (facts_at c past) (held_at c past)) (agrees head c past g) a.running.call (told_known (notes_at c past) given a.running.call a.known))
+          other a.running a.call (known_more (notes_at c past) (bare_at c past) (grows_to_bare (facts_at c past) (held_at c past)) (agrees head c past (wide head past g)) a.running.call (told_known (notes_at c past) given a.running.call a.known))
           (known_read c past (notes_at c past) a.running.call given a.known)
       by (inr (inr (inl a))) = absurd (no_refusal given fine EIO a.of_answer)
       by (inr (inr (inr (inl a)))) = absurd (no_refusal given fine EBADF a.of_answer)
@@ -137,7 +136,7 @@ module _ (head : Head) (c : ℕ) where
       by (inr (inr (inr (inr (inr (inr (inr a))))))) = subst (λ (v : Call). KnownAt c past v) (the_call a.running a.call) (inr (stat_told head c slot past at named given work g own a x i is))
 
   -- all that is told calm in the slot
-  told_all : (past : List Line) (at : At) (slot : ℕ) (named : At) (given : Answer) (work : Option Work) → Grown head past → at.node ≡ Client c → MayTell past at c slot named given work
+  told_all : (past : List Line) (at : At) (slot : ℕ) (named : At) (given : Answer) (work : Option Work) → BareGrown head past → at.node ≡ Client c → MayTell past at c slot named given work
       → Every (KnownAt c past) (told_calm slot given (calm (who_is c (printed past)) (printed past)))
   told_all past at slot named given work g own ok = by (is_error given) refl
     where
@@ -154,7 +153,7 @@ module _ (head : Head) (c : ℕ) where
           subst (λ (v : Call). KnownAt c past v) m.1.1 (told_one past at slot named given work g own ok e m.0 f.0 (eqb-true m.0.0 slot f.1)))
 
   -- a call that begins: those that stay known are on other handles than it opens or closes
-  begun_known : (past : List Line) (stamp : Stamp) (d s : ℕ) (running : Running) → Grown head (line (turn stamp (Client d)) (Begin s running) ∷ past) → (t : Bool) → nat_eq d c ≡ t → (old : List Call) → Every (KnownAt c past) old
+  begun_known : (past : List Line) (stamp : Stamp) (d s : ℕ) (running : Running) → BareGrown head (line (turn stamp (Client d)) (Begin s running) ∷ past) → (t : Bool) → nat_eq d c ≡ t → (old : List Call) → Every (KnownAt c past) old
       → Every (KnownAt c (line (turn stamp (Client d)) (Begin s running) ∷ past)) (if t then filter (λ known. not (rebinds running.call known)) old else old)
   begun_known past stamp d s running g true e old h =
       every_filter (λ known. not (rebinds running.call known)) (λ k is q. still past (line (turn stamp (Client d)) (Begin s running)) g (refl, tt) k (λ t. no (rebinds running.call k) is) q) old h
@@ -174,7 +173,7 @@ module _ (head : Head) (c : ℕ) where
   more_known past true more old h k = every_both (KnownAt c past) more old (h refl) k
   more_known past false more old h k = k
 
-  pub known_is_known : (past : List Line) → Grown head past → Every (KnownAt c past) (known (who_is c (printed past)) (printed past))
+  pub known_is_known : (past : List Line) → BareGrown head past → Every (KnownAt c past) (known (who_is c (printed past)) (printed past))
   known_is_known [] g = tt
   known_is_known (l ∷ past) g = by l.at.node l.entry g (known_is_known past g.1)
     where
@@ -184,11 +183,11 @@ module _ (head : Head) (c : ℕ) where
       P : List Call
       P = known (who_is c (printed past)) (printed past)
 
-      after_line : (node : Node) (e : Entry) → Grown head (line (turn l.at.stamp node) e ∷ past) → Stays c past node e → ((k : Call) → KeepsHandles c node e k) → (xs : List Call)
+      after_line : (node : Node) (e : Entry) → BareGrown head (line (turn l.at.stamp node) e ∷ past) → Stays c past node e → ((k : Call) → KeepsHandles c node e k) → (xs : List Call)
           → Every (KnownAt c past) xs → Every (KnownAt c (line (turn l.at.stamp node) e ∷ past)) xs
       after_line node e g stays keeps xs h = every_map (KnownAt c past) (KnownAt c (line (turn l.at.stamp node) e ∷ past)) xs (λ k q. still past (line (turn l.at.stamp node) e) g stays k (keeps k) q) h
 
-      by : (node : Node) (e : Entry) → Grown head (line (turn l.at.stamp node) e ∷ past) → Every (KnownAt c past) P
+      by : (node : Node) (e : Entry) → BareGrown head (line (turn l.at.stamp node) e ∷ past) → Every (KnownAt c past) P
           → Every (KnownAt c (line (turn l.at.stamp node) e ∷ past)) (known (who_is c (printed (line (turn l.at.stamp node) e ∷ past))) (printed (line (turn l.at.stamp node) e ∷ past)))
       by (Client d) (Begin s running) g h = rw (own, and_true (nat_eq d c)) (begun_known past l.at.stamp d s running g (nat_eq d c) refl P h)
       by (Client d) (Told s named given work) g h =
@@ -207,12 +206,12 @@ module _ (head : Head) (c : ℕ) where
       by (Client d) (Life w) g h =
           cond_both (nat_eq d c) w.life (life c (printed past))
           (λ (v : ℕ). Every (KnownAt c (line (turn l.at.stamp (Client d)) (Life w) ∷ past)) (known (record { client = c; life = v }) (printed past)))
-          (λ t. subst (λ (v : List Call). Every (KnownAt c (line (turn l.at.stamp (Client d)) (Life w) ∷ past)) v) (sym (begun_anew head c d w past (turn l.at.stamp (Client d)) g.1 g.0.ok t).1) tt)
+          (λ t. subst (λ (v : List Call). Every (KnownAt c (line (turn l.at.stamp (Client d)) (Life w) ∷ past)) v) (sym (begun_anew head c d w past (turn l.at.stamp (Client d)) (wide head past g.1) g.0.ok t).1) tt)
           (λ f. after_line (Client d) (Life w) g (flip c d ∙ f, tt) (λ k. tt) P h)
       by (Client d) (Marks name) g h = ⊎_elim
           (λ (free : MarksFree c past (Client d) (Marks name)). after_line (Client d) (Marks name) g (refl, free) (λ k. tt) P h)
           (λ (none : (calm (who_is c (printed past)) (printed past) ≡ []) × (P ≡ [])). subst (λ (v : List Call). Every (KnownAt c (line (turn l.at.stamp (Client d)) (Marks name) ∷ past)) v) (sym none.1) tt)
-          (marks_free head c past l.at.stamp d name g.1 g.0.ok)
+          (marks_free head c past l.at.stamp d name (wide head past g.1) g.0.ok)
       by (Target u) (Begin s running) g h = absurd g.0.ok
       by (Target u) (Told s named given work) g h = absurd g.0.ok
       by (Target u) (Drop v x) g h = absurd g.0.ok
@@ -270,11 +269,11 @@ module _ (head : Head) where
   abbrev KnownNow : ℕ → List Line → Call → Type 0
   KnownNow c past k = KnownBy (notes_at c past) (files_at c past) (Free head c past) k
 
-  agrees_now : (c : ℕ) (past : List Line) → Grown head past → Agrees (notes_at c past)
-  agrees_now c past g = agrees_too (notes_at c past) (bare_at c past) (grows_to_bare (facts_at c past) (held_at c past)) (agrees head c past g)
+  agrees_now : (c : ℕ) (past : List Line) → BareGrown head past → Agrees (notes_at c past)
+  agrees_now c past g = agrees_too (notes_at c past) (bare_at c past) (grows_to_bare (facts_at c past) (held_at c past)) (agrees head c past (wide head past g))
 
   -- so it does where no lock is marked that isn't pinned
-  known_clear : (c : ℕ) (past : List Line) (k : Call) → Grown head past → Unmarked (held_at c past) → KnownAt c past k → KnownNow c past k
+  known_clear : (c : ℕ) (past : List Line) (k : Call) → BareGrown head past → Unmarked (held_at c past) → KnownAt c past k → KnownNow c past k
   known_clear c past k g calm =
       by_more (bare_at c past) (notes_at c past) (files_at c past) (files_at c past) (Locked c past) (Free head c past) k (grows_from_bare (facts_at c past) (held_at c past) calm) (agrees_now c past g)
       (λ h offset count f is bound. bound) (λ u locked. locked_free head c past u g calm locked)
@@ -311,6 +310,8 @@ module _ (head : Head) where
       quiet : (stage : Stage) (k : Call) → BeginQuiet stage k → MayKnow k → ⊥
       quiet Bad k q r = q
       quiet stage (call.Close h) q r = none r
+      quiet stage (call.Write h offset bytes) q r = none r
+      quiet stage (call.Cut h size) q r = none r
       quiet stage (call.Flush h) q r = none r
       quiet stage (call.Glimpse h) q r = none r
       quiet stage k q r = q
@@ -349,30 +350,30 @@ module _ (head : Head) where
   stat_starts slot (Stands s running) h = inr h
   stat_starts slot e h = inl h
 
-  reading_owes : (same : Type 0) (k : Call) (slot : ℕ) (e : Entry) → IsReadingCall k → OwesBegun same slot Plain k e → same × (Starts slot Plain e ⊎ (IsStatCall k × StandsFor slot e))
+  reading_owes : (same : Type 0) (k : Call) (slot : ℕ) (e : Entry) → IsReadingCall k → BareOwesBegun same slot Plain k e → same × (Starts slot Plain e ⊎ (IsStatCall k × StandsFor slot e))
   reading_owes same (call.Lookup path) slot e reads o = (o.0, inl o.1)
   reading_owes same (call.List path) slot e reads o = (o.0, inl o.1)
   reading_owes same (call.Layout path) slot e reads o = (o.0, inl o.1)
   reading_owes same (call.Stat path) slot e reads o = (o.0, ⊎_elim (λ (s : Starts slot Plain e). inl s) (λ (s : StandsFor slot e). inr (tt, s)) (stat_starts slot e o.1))
   reading_owes same k slot e reads o = absurd reads
 
-  read_owes : (same : Type 0) (k : Call) (slot : ℕ) (e : Entry) → IsReadCall k → OwesBegun same slot Plain k e → same × StartsRead slot e
+  read_owes : (same : Type 0) (k : Call) (slot : ℕ) (e : Entry) → IsReadCall k → BareOwesBegun same slot Plain k e → same × StartsRead slot e
   read_owes same (call.Read h offset count) slot e reads o = o
   read_owes same k slot e reads o = absurd reads
 
   -- in its turn
-  begun_starts : (same : Type 0) (c d : ℕ) (past : List Line) (r : Running) (slot : ℕ) (e : Entry) → Begins d past r → IsDue c past r → OwesBegun same slot r.stage r.call e → same × Follows r slot e
+  begun_starts : (same : Type 0) (c d : ℕ) (past : List Line) (r : Running) (slot : ℕ) (e : Entry) → BareBegins d past r → IsDue c past r → BareOwesBegun same slot r.stage r.call e → same × Follows r slot e
   begun_starts same c d past r slot e (inl p) (inl bad) o = let both : Plain ≡ Bad = sym p.1 ∙ bad in absurd (cc)
-  begun_starts same c d past r slot e (inl p) (inr h) o = by h.0 (subst (λ (v : Stage). OwesBegun same slot v r.call e) p.1 o)
+  begun_starts same c d past r slot e (inl p) (inr h) o = by h.0 (subst (λ (v : Stage). BareOwesBegun same slot v r.call e) p.1 o)
     where
-      by : MayKnow r.call → OwesBegun same slot Plain r.call e → same × Follows r slot e
+      by : MayKnow r.call → BareOwesBegun same slot Plain r.call e → same × Follows r slot e
       by (inl reads) owes =
           let s = reading_owes same r.call slot e reads owes in
           (s.0, ⊎_elim (λ (h : Starts slot Plain e). inr (inl (p.1, h))) (λ (h : IsStatCall r.call × StandsFor slot e). inr (inr (inr (h.0, p.1, h.1)))) s.1)
       by (inr reads) owes = let s = read_owes same r.call slot e reads owes in (s.0, inr (inr (inl (reads, s.1))))
-  begun_starts same c d past r slot e (inr p) due o = let s = subst (λ (v : Stage). OwesBegun same slot v r.call e) p.1 o in (s.0, inl (p.1, s.1))
+  begun_starts same c d past r slot e (inr p) due o = let s = subst (λ (v : Stage). BareOwesBegun same slot v r.call e) p.1 o in (s.0, inl (p.1, s.1))
 
-  told_due : (at : At) (s : ℕ) (named : At) (given : Answer) (work : Option Work) (later : List PrintedLine) (past : List Line) → Grown head past → Owes past at (Told s named given work)
+  told_due : (at : At) (s : ℕ) (named : At) (given : Answer) (work : Option Work) (later : List PrintedLine) (past : List Line) → BareGrown head past → BareOwes past at (Told s named given work)
       → Due past (record { at = at; entry = entry.Told s named given } ∷ later)
   told_due at s named given work later [] g o = tt
   told_due at s named given work later (l ∷ past) g o = by l.at.node l.entry g.0 o (told_due at s named given work later past g.1)
@@ -383,8 +384,8 @@ module _ (head : Head) where
       same_slot slot r (inr (inr (inl p))) = p.1
       same_slot slot r (inr (inr (inr p))) = absurd p.2
 
-      by : (node : Node) (e : Entry) → Allowed head past (turn l.at.stamp node) e → Owes (line (turn l.at.stamp node) e ∷ past) at (Told s named given work)
-          → (Owes past at (Told s named given work) → Due past (record { at = at; entry = entry.Told s named given } ∷ later))
+      by : (node : Node) (e : Entry) → BareAllowed head past (turn l.at.stamp node) e → BareOwes (line (turn l.at.stamp node) e ∷ past) at (Told s named given work)
+          → (BareOwes past at (Told s named given work) → Due past (record { at = at; entry = entry.Told s named given } ∷ later))
           → Due (line (turn l.at.stamp node) e ∷ past) (record { at = at; entry = entry.Told s named given } ∷ later)
       by (Client d) (Begin slot running) k o more = λ c own due.
           let here = turn l.at.stamp (Client d) in
@@ -398,7 +399,7 @@ module _ (head : Head) where
 
   -- nothing else may follow, but what it pins and unpins, a request, and that it goes on
   other_due : (at : At) (e : Entry) → ((slot : ℕ) → Starts slot Plain e → ⊥) → ((slot : ℕ) → Starts slot Bad e → ⊥) → ((slot : ℕ) → StartsRead slot e → ⊥)
-      → ((slot : ℕ) → StandsFor slot e → ⊥) → (later : List PrintedLine) (past : List Line) → Grown head past → Owes past at e → Due past later
+      → ((slot : ℕ) → StandsFor slot e → ⊥) → (later : List PrintedLine) (past : List Line) → BareGrown head past → BareOwes past at e → Due past later
   other_due at e never nor none off later [] g o = tt
   other_due at e never nor none off later (l ∷ past) g o = by l.at.node l.entry g.0 o (other_due at e never nor none off later past g.1)
     where
@@ -408,7 +409,7 @@ module _ (head : Head) where
       no_more slot r (inr (inr (inl p))) = none slot p.1
       no_more slot r (inr (inr (inr p))) = off slot p.2
 
-      by : (node : Node) (x : Entry) → Allowed head past (turn l.at.stamp node) x → Owes (line (turn l.at.stamp node) x ∷ past) at e → (Owes past at e → Due past later) → Due (line (turn l.at.stamp node) x ∷ past) later
+      by : (node : Node) (x : Entry) → BareAllowed head past (turn l.at.stamp node) x → BareOwes (line (turn l.at.stamp node) x ∷ past) at e → (BareOwes past at e → Due past later) → Due (line (turn l.at.stamp node) x ∷ past) later
       by (Client d) (Begin slot running) k o more = λ c own due. absurd (no_more slot running (begun_starts (turn l.at.stamp (Client d) ≡ at) c d past running slot e k.ok.begins due o).1)
       by (Target t) (Begin slot running) k o more = absurd k.ok
       by _ (Pins name) k o more = more o.1
@@ -417,7 +418,7 @@ module _ (head : Head) where
 
   -- ---- a request, or that the call goes on, where that never follows
 
-  since_pins : (c d : ℕ) (stamp : Stamp) (name : LockName) (now past : List Line) → Grown head (line (turn stamp (Client d)) (Pins name) ∷ past) → Since c now (line (turn stamp (Client d)) (Pins name) ∷ past) → Since c now past
+  since_pins : (c d : ℕ) (stamp : Stamp) (name : LockName) (now past : List Line) → BareGrown head (line (turn stamp (Client d)) (Pins name) ∷ past) → Since c now (line (turn stamp (Client d)) (Pins name) ∷ past) → Since c now past
   since_pins c d stamp name now past g s =
       record {
         calls = s.calls;
@@ -427,7 +428,7 @@ module _ (head : Head) where
             (pins_grow c past stamp d name) (agrees_now c (line (turn stamp (Client d)) (Pins name) ∷ past) g) (λ h offset count f is bound. bound) (λ u free. free_pins head c past stamp d name u free) h);
       }
 
-  since_unpins : (c d : ℕ) (stamp : Stamp) (name : LockName) (now past : List Line) → Grown head (line (turn stamp (Client d)) (Unpins name) ∷ past)
+  since_unpins : (c d : ℕ) (stamp : Stamp) (name : LockName) (now past : List Line) → BareGrown head (line (turn stamp (Client d)) (Unpins name) ∷ past)
       → Since c now (line (turn stamp (Client d)) (Unpins name) ∷ past) → Since c now past
   since_unpins c d stamp name now past g s =
       record {
@@ -442,22 +443,22 @@ module _ (head : Head) where
   Begun c stamp slot running past = line (turn stamp (Client c)) (Begin slot running) ∷ past
 
   module _ (c : ℕ) (at : At) (own : at.node ≡ Client c) (x : Entry) (now : List Line) (later : List PrintedLine)
-      (never : (stamp : Stamp) (slot : ℕ) (running : Running) (past : List Line) → Grown head (Begun c stamp slot running past) → Since c now (Begun c stamp slot running past)
+      (never : (stamp : Stamp) (slot : ℕ) (running : Running) (past : List Line) → BareGrown head (Begun c stamp slot running past) → Since c now (Begun c stamp slot running past)
       → Follows running slot x → IsDue c past running → ⊥) where
     one_client : (d : ℕ) (here : At) → here.node ≡ Client d → here ≡ at → d ≡ c
     one_client d here is e = let same : Client d ≡ Client c = sym is ∙ ap (λ (v : At). v.node) e ∙ own in cc
 
-    never_due : (past : List Line) → Grown head past → Since c now past → Owes past at x → Due past later
+    never_due : (past : List Line) → BareGrown head past → Since c now past → BareOwes past at x → Due past later
     never_due [] g s o = tt
     never_due (l ∷ past) g s o = by l.at.node l.entry g s o (never_due past g.1)
       where
-        by : (node : Node) (e : Entry) → Grown head (line (turn l.at.stamp node) e ∷ past) → Since c now (line (turn l.at.stamp node) e ∷ past) → Owes (line (turn l.at.stamp node) e ∷ past) at x
-            → (Since c now past → Owes past at x → Due past later) → Due (line (turn l.at.stamp node) e ∷ past) later
+        by : (node : Node) (e : Entry) → BareGrown head (line (turn l.at.stamp node) e ∷ past) → Since c now (line (turn l.at.stamp node) e ∷ past) → BareOwes (line (turn l.at.stamp node) e ∷ past) at x
+            → (Since c now past → BareOwes past at x → Due past later) → Due (line (turn l.at.stamp node) e ∷ past) later
         by (Client d) (Begin slot running) g s o more = λ b is due.
             let starts = begun_starts (turn l.at.stamp (Client d) ≡ at) b d past running slot x g.0.ok.begins due o in
             let same : c ≡ d = sym (one_client d (turn l.at.stamp (Client d)) refl starts.0) in
             let due_here : IsDue c past running = subst (λ (v : ℕ). IsDue v past running) (one_client b (turn l.at.stamp (Client d)) is starts.0) due in
-            absurd (subst (λ (v : ℕ). Grown head (Begun v l.at.stamp slot running past) → Since c now (Begun v l.at.stamp slot running past) → ⊥) same (λ g s. never l.at.stamp slot running past g s starts.1 due_here) g s)
+            absurd (subst (λ (v : ℕ). BareGrown head (Begun v l.at.stamp slot running past) → Since c now (Begun v l.at.stamp slot running past) → ⊥) same (λ g s. never l.at.stamp slot running past g s starts.1 due_here) g s)
         by (Client d) (Pins name) g s o more = more (since_pins c d l.at.stamp name now past g s) o.1
         by (Client d) (Unpins name) g s o more = more (since_unpins c d l.at.stamp name now past g s) o
         by (Target u) (Begin slot running) g s o more = absurd g.0.ok
@@ -466,7 +467,7 @@ module _ (head : Head) where
         by _ _ g s o more = tt
 
   -- the call that began stands in its slot, and is known now
-  module _ (c : ℕ) (stamp : Stamp) (slot : ℕ) (running : Running) (now past : List Line) (g : Grown head (Begun c stamp slot running past)) (s : Since c now (Begun c stamp slot running past)) where
+  module _ (c : ℕ) (stamp : Stamp) (slot : ℕ) (running : Running) (now past : List Line) (g : BareGrown head (Begun c stamp slot running past)) (s : Since c now (Begun c stamp slot running past)) where
     stands_now : call_at c slot now ≡ Some running
     stands_now =
         s.calls slot ∙ ap (λ (v : Bool). if v then (if nat_eq slot slot then Some running else call_at c slot past) else call_at c slot past) (self c)
@@ -488,9 +489,9 @@ module _ (head : Head) where
         one a b e = cc
 
     -- nothing is asked for it
-    known_asks : (t : ℕ) (q : Queued) → Grown head now → QueuesOk now c t q → q.slot ≡ Some slot → running.stage ≡ Plain → MayKnow running.call → KnownAt c past running.call → Unmarked (held_at c past) → ⊥
+    known_asks : (t : ℕ) (q : Queued) → BareGrown head now → BareQueuesOk now c t q → q.slot ≡ Some slot → running.stage ≡ Plain → MayKnow running.call → KnownAt c past running.call → Unmarked (held_at c past) → ⊥
     known_asks t q grown ok serves plain may h calm =
-        by (subst (λ (v : Running). NamesAskOk now c t v q.op ⊎ SizeAskOk t v q.op ⊎ LockAskOk t v q.op) (one_running ok.running ok.slot ok.call (one_slot ok.slot slot q.slot ok.serves serves)) ok.asks) may
+        by (subst (λ (v : Running). NamesAskOk now c t v q.op ⊎ SizeAskOk t v q.op ⊎ BareLockAskOk t v q.op) (one_running ok.running ok.slot ok.call (one_slot ok.slot slot q.slot ok.serves serves)) ok.asks) may
       where
         one_slot : (a b : ℕ) (v : Option ℕ) → v ≡ Some a → v ≡ Some b → a ≡ b
         one_slot a b v e f = cc
@@ -499,7 +500,7 @@ module _ (head : Head) where
         no_read file (call.Read h offset count) o e r = absurd (cc)
         no_read file k o e r = r
 
-        by : NamesAskOk now c t running q.op ⊎ SizeAskOk t running q.op ⊎ LockAskOk t running q.op → MayKnow running.call → ⊥
+        by : NamesAskOk now c t running q.op ⊎ SizeAskOk t running q.op ⊎ BareLockAskOk t running q.op → MayKnow running.call → ⊥
         by (inl a) (inl reads) = ⊎_elim
             (λ (k : IsKnown (notes_at c now) running.call × ReadKnown (files_at c now) (Free head c now) running.call). known_told (notes_at c now) running.call reads k.0 a.unknown)
             (λ (k : StatKnown (notes_at c now) (Free head c now) running.call). stat_asks_none head c now grown running.call k a.unknown_file)
@@ -510,7 +511,7 @@ module _ (head : Head) where
         by (inr (inr a)) m = let both : Enqueued a.work ≡ Plain = sym a.stage ∙ plain in cc
 
     -- nor does a read wait for a lock
-    read_waits : (at : At) (other : ℕ) (r : Running) → Grown head now → StandsOk now at c other r → other ≡ slot → IsReadCall running.call → IsDue c past running → ⊥
+    read_waits : (at : At) (other : ℕ) (r : Running) → BareGrown head now → BareStandsOk now at c other r → other ≡ slot → IsReadCall running.call → IsDue c past running → ⊥
     read_waits at other r grown ok same read due = by ok.how
       where
         is : ok.running ≡ running
@@ -519,7 +520,7 @@ module _ (head : Head) where
         good : Reads running → running.stage ≡ Bad → ⊥
         good k = k.good
 
-        lacks_none : (k : Reads running) (work : Work) → Lacks now c running k work → IsDue c past running → Begins c past running → ⊥
+        lacks_none : (k : Reads running) (work : Work) → BareLacks now c running k work → IsDue c past running → BareBegins c past running → ⊥
         lacks_none k work lacks (inl bad) b = k.good bad
         lacks_none k work lacks (inr h) (inr b) = k.good b.1
         lacks_none k work lacks (inr h) (inl b) =
@@ -541,20 +542,20 @@ module _ (head : Head) where
             read_known h offset count (inl k) = k.1
             read_known h offset count (inr k) = absurd k
 
-        stood : LockStand now c running ok.stage → ⊥
+        stood : BareLockStand now c running ok.stage → ⊥
         stood k = ⊎_elim
-            (λ (q : (ok.stage ≡ Enqueued k.work) × Lacks now c running k.read k.work). lacks_none k.read k.work q.1 due g.0.ok.begins)
+            (λ (q : (ok.stage ≡ Enqueued k.work) × BareLacks now c running k.read k.work). lacks_none k.read k.work q.1 due g.0.ok.begins)
             (λ (q : (lock : Lock) × (ok.stage ≡ Came k.work lock) × ((from : ℕ) × (reply : ReplyTo) × (running.asking ≡ Answered from reply))).
             let both : Unasked ≡ Answered q.2.0 q.2.1 = ap (λ (v : Running). v.asking) (sym g.0.ok.is) ∙ q.2.2 in absurd (cc))
             k.is
 
-        by : SizesStand now at ok.running ok.stage ok.pins ⊎ (LockStand now c ok.running ok.stage ⊎ StatStand now at c ok.running ok.stage ok.pins) → ⊥
+        by : BareSizesStand now at ok.running ok.stage ok.pins ⊎ (BareLockStand now c ok.running ok.stage ⊎ BareStatStand now at c ok.running ok.stage ok.pins) → ⊥
         by (inl k) = subst IsReadCall (ap (λ (v : Running). v.call) (sym is) ∙ k.glimpses) read
-        by (inr (inl k)) = stood (subst (λ (v : Running). LockStand now c v ok.stage) is k)
+        by (inr (inl k)) = stood (subst (λ (v : Running). BareLockStand now c v ok.stage) is k)
         by (inr (inr k)) = subst IsReadCall (ap (λ (v : Running). v.call) (sym is) ∙ k.stat.stats) read
 
     -- nor does a stat
-    stat_waits : (at : At) (other : ℕ) (r : Running) → Grown head now → StandsOk now at c other r → other ≡ slot → IsStatCall running.call → running.stage ≡ Plain → IsDue c past running → ⊥
+    stat_waits : (at : At) (other : ℕ) (r : Running) → BareGrown head now → BareStandsOk now at c other r → other ≡ slot → IsStatCall running.call → running.stage ≡ Plain → IsDue c past running → ⊥
     stat_waits at other r grown ok same stats plain due = by ok.how due
       where
         is : ok.running ≡ running
@@ -563,14 +564,14 @@ module _ (head : Head) where
         new : running.asking ≡ Unasked
         new = ap (λ (v : Running). v.asking) g.0.ok.is
 
-        by : SizesStand now at ok.running ok.stage ok.pins ⊎ (LockStand now c ok.running ok.stage ⊎ StatStand now at c ok.running ok.stage ok.pins) → IsDue c past running → ⊥
+        by : BareSizesStand now at ok.running ok.stage ok.pins ⊎ (BareLockStand now c ok.running ok.stage ⊎ BareStatStand now at c ok.running ok.stage ok.pins) → IsDue c past running → ⊥
         by how (inl bad) = let both : Plain ≡ Bad = sym plain ∙ bad in cc
         by (inl k) (inr h) = subst IsStatCall (ap (λ (v : Running). v.call) (sym is) ∙ k.glimpses) stats
         by (inr (inl k)) (inr h) = subst IsStatCall (ap (λ (v : Running). v.call) (sym is) ∙ k.read.reads) stats
-        by (inr (inr k)) (inr h) = stat_waits_none head c now grown at running ok.stage ok.pins plain new (known_now h.1 h.2) (subst (λ (v : Running). StatStand now at c v ok.stage ok.pins) is k)
+        by (inr (inr k)) (inr h) = stat_waits_none head c now grown at running ok.stage ok.pins plain new (known_now h.1 h.2) (subst (λ (v : Running). BareStatStand now at c v ok.stage ok.pins) is k)
 
-  asks_never : (c t : ℕ) (q : Queued) (now : List Line) → Grown head now → QueuesOk now c t q → (stamp : Stamp) (slot : ℕ) (running : Running) (past : List Line)
-      → Grown head (Begun c stamp slot running past) → Since c now (Begun c stamp slot running past)
+  asks_never : (c t : ℕ) (q : Queued) (now : List Line) → BareGrown head now → BareQueuesOk now c t q → (stamp : Stamp) (slot : ℕ) (running : Running) (past : List Line)
+      → BareGrown head (Begun c stamp slot running past) → Since c now (Begun c stamp slot running past)
       → Follows running slot (Queues t q) → IsDue c past running → ⊥
   asks_never c t q now grown ok stamp slot running past g s (inl p) due = p.1
   asks_never c t q now grown ok stamp slot running past g s (inr (inl p)) (inl bad) = let both : Plain ≡ Bad = sym p.0 ∙ bad in cc
@@ -578,8 +579,8 @@ module _ (head : Head) where
   asks_never c t q now grown ok stamp slot running past g s (inr (inr (inl p))) due = p.1
   asks_never c t q now grown ok stamp slot running past g s (inr (inr (inr p))) due = p.2
 
-  waits_never : (c : ℕ) (at : At) (other : ℕ) (r : Running) (now : List Line) → Grown head now → StandsOk now at c other r → (stamp : Stamp) (slot : ℕ) (running : Running) (past : List Line)
-      → Grown head (Begun c stamp slot running past)
+  waits_never : (c : ℕ) (at : At) (other : ℕ) (r : Running) (now : List Line) → BareGrown head now → BareStandsOk now at c other r → (stamp : Stamp) (slot : ℕ) (running : Running) (past : List Line)
+      → BareGrown head (Begun c stamp slot running past)
       → Since c now (Begun c stamp slot running past) → Follows running slot (Stands other r) → IsDue c past running → ⊥
   waits_never c at other r now grown ok stamp slot running past g s (inl p) due = p.1
   waits_never c at other r now grown ok stamp slot running past g s (inr (inl p)) due = p.1
@@ -588,13 +589,13 @@ module _ (head : Head) where
 
   -- ---- line by line
 
-  due_before : (past : List Line) (l : Line) (later : List PrintedLine) → Grown head (l ∷ past) → Due (l ∷ past) later → Due past (shown l.at (printed_entry (count_sent past + 1) l.entry) later)
+  due_before : (past : List Line) (l : Line) (later : List PrintedLine) → BareGrown head (l ∷ past) → Due (l ∷ past) later → Due past (shown l.at (printed_entry (count_sent past + 1) l.entry) later)
   due_before past l later g d = by l.at.node l.entry g d
     where
       from_now : (c : ℕ) → Since c past past
       from_now c = record { calls = λ slot. refl; files = λ h. refl; knows = λ k h. h }
 
-      by : (node : Node) (e : Entry) → Grown head (line (turn l.at.stamp node) e ∷ past) → Due (line (turn l.at.stamp node) e ∷ past) later → Due past (shown (turn l.at.stamp node) (printed_entry (count_sent past + 1) e) later)
+      by : (node : Node) (e : Entry) → BareGrown head (line (turn l.at.stamp node) e ∷ past) → Due (line (turn l.at.stamp node) e ∷ past) later → Due past (shown (turn l.at.stamp node) (printed_entry (count_sent past + 1) e) later)
       by node (Pins name) g d = d
       by node (Unpins name) g d = d
       by node (Told s named given work) g d = told_due (turn l.at.stamp node) s named given work later past g.1 g.0.owes
@@ -604,14 +605,14 @@ module _ (head : Head) where
       by (Target u) (Stands s r) g d = absurd g.0.ok
       by node e g d = other_due (turn l.at.stamp node) e (λ slot s. s) (λ slot s. s) (λ slot s. s) (λ slot s. s) _ past g.1 g.0.owes
 
-  silent_at : (past : List Line) (l : Line) (later : List PrintedLine) → Allowed head past l.at l.entry → Grown head past → Due (l ∷ past) later → Keeps Silent past l later
+  silent_at : (past : List Line) (l : Line) (later : List PrintedLine) → BareAllowed head past l.at l.entry → BareGrown head past → Due (l ∷ past) later → Keeps Silent past l later
   silent_at past l later k g d = by l.at.node l.entry k d
     where
-      by : (node : Node) (e : Entry) → Allowed head past (turn l.at.stamp node) e → Due (line (turn l.at.stamp node) e ∷ past) later
+      by : (node : Node) (e : Entry) → BareAllowed head past (turn l.at.stamp node) e → Due (line (turn l.at.stamp node) e ∷ past) later
           → OfPrinted (SilentAt (printed past) (turn l.at.stamp node) later) (printed_entry (count_sent past + 1) e)
       by (Client c) (Begin slot running) k d = begins k.ok.begins
         where
-          begins : Begins c past running → is_repeat (who_is c (printed past)) (printed past) running.call ≡ true → is_told_silently slot (turn l.at.stamp (Client c)) later ≡ true
+          begins : BareBegins c past running → is_repeat (who_is c (printed past)) (printed past) running.call ≡ true → is_told_silently slot (turn l.at.stamp (Client c)) later ≡ true
           begins (inr bad) is = d c refl (inl bad.1)
           begins (inl good) is =
               let some = and_parts (list_any (same_reading running.call) (known (who_is c (printed past)) (printed past))) (not (has_write_lock (who_is c (printed past)) (held (printed past)))) is in
@@ -622,5 +623,6 @@ module _ (head : Head) where
       by (Target t) (Begin slot running) k d = tt
       by _ _ k d = tt
 
-  pub silent_law : (past : List Line) → Grown head past → Settled past → Holds Silent (printed past)
-  silent_law past g settled = holds_due head Silent Nothing (λ l past k. k) Due due_before (λ past l later a g k d. silent_at past l later a g d) past [] g tt (nothing_due past settled)
+  pub silent_law : (past : List Line) → BareGrown head past → Settled past → Holds Silent (printed past)
+  silent_law past g settled =
+      holds_owed head Silent (BareGrown head) (λ l past k. k.1) Due (λ past l later g k d. due_before past l later k d) (λ past l later a g k d. silent_at past l later k.0 k.1 d) past [] (wide head past g) g (nothing_due past settled)

@@ -13,11 +13,12 @@ use Rattle.lu_client_rows.specs.Slots.{is_open_of, opens}
 use Rattle.lu_covered.specs.Calls.{call_at, opened, binds, told_file, begun_file, file_at, is_opening, is_bad}
 use Rattle.lu_covered.specs.Heads.{Head}
 use Rattle.lu_laws.specs.Words.Repeats.{rebinds}
-use Rattle.lu_guards.proofs.Guards.{Begins, IsGlimpse, SizesStand, Reads, LockStand, StatStand, EntryOk}
-use Rattle.lu_guards.proofs.Grown.{Grown}
+use Rattle.lu_guards.proofs.Guards.{Begins, IsGlimpse, Reads}
 use Rattle.lu_guards.proofs.Lists.{self, turn}
 use Rattle.lu_guards.proofs.ClientLines.{SmallOn, small_on}
-use Rattle.lu_guards.proofs.Calls.{JustBegan, Came, call_cases, bad_unasked}
+use Rattle.lu_guards.proofs.Calls.{JustBegan, bad_unasked}
+use Rattle.lu_facts.proofs.BareGuards.{BareSizesStand, BareLockStand, BareStatStand, BareOk, BareGrown, wide}
+use Rattle.lu_facts.proofs.BareCases.{BareCame, bare_cases}
 use Rattle.lu_lawful.proofs.SilentHeld.{gives_up}
 
 -- ---- a call that opens a handle, and isn't refused as it begins
@@ -30,8 +31,8 @@ pub record Opening (c : ℕ) (past : List Line) (slot h : ℕ) : Type 0 where
   pub good : running.stage ≡ Bad → ⊥
 
 -- then its handle is said to be opening
-opening_is : (head : Head) (c slot h : ℕ) (past : List Line) → Grown head past → Opening c past slot h → is_opening c h past ≡ false → ⊥
-opening_is head c slot h past g o none = by slot (subst (SmallOn slot) o.there (small_on head c slot past g)) o.there
+opening_is : (head : Head) (c slot h : ℕ) (past : List Line) → BareGrown head past → Opening c past slot h → is_opening c h past ≡ false → ⊥
+opening_is head c slot h past g o none = by slot (subst (SmallOn slot) o.there (small_on head c slot past (wide head past g))) o.there
   where
     it : (x : Option Running) → x ≡ Some o.running → opens h x ≡ true
     it x e = ap (opens h) e ∙ ap (is_open_of h) o.opens ∙ self h
@@ -66,8 +67,8 @@ begins_free c past r h path (inr b) is good = absurd (good b.1)
 abbrev Before : ℕ → List Line → Line → ℕ → ℕ → Type 0
 Before c past l slot h = Opening c past slot h ⊎ ((r : Running) × JustBegan (l ∷ past) c slot r × (file_at c h past ≡ None) × (is_opening c h past ≡ false))
 
-opening_before : (head : Head) (c slot h : ℕ) (l : Line) (past : List Line) → Grown head (l ∷ past) → Opening c (l ∷ past) slot h → Before c past l slot h
-opening_before head c slot h l past g o = by (call_cases past l.at.stamp l.at.node l.entry g.0.ok c slot o.running o.there)
+opening_before : (head : Head) (c slot h : ℕ) (l : Line) (past : List Line) → BareGrown head (l ∷ past) → Opening c (l ∷ past) slot h → Before c past l slot h
+opening_before head c slot h l past g o = by (bare_cases head past l.at.stamp l.at.node l.entry g.0 c slot o.running o.there)
   where
     no_read : (r : Running) → r.call ≡ call.Open h o.path → Reads r → ⊥
     no_read r is k = let e : call.Open h o.path ≡ call.Read k.handle k.offset k.count = sym is ∙ k.reads in cc
@@ -75,17 +76,17 @@ opening_before head c slot h l past g o = by (call_cases past l.at.stamp l.at.no
     no_glimpse : (r : Running) (g : ℕ) → r.call ≡ call.Open h o.path → IsGlimpse r g → ⊥
     no_glimpse r g is k = let e : call.Open h o.path ≡ call.Glimpse g = sym is ∙ k in cc
 
-    by : Came past (turn l.at.stamp l.at.node) l.at.node l.entry c slot o.running → Before c past l slot h
+    by : BareCame past (turn l.at.stamp l.at.node) l.at.node l.entry c slot o.running → Before c past l slot h
     by (inl e) = inl (record { running = o.running; there = e; path = o.path; opens = o.opens; good = o.good })
     by (inr (inl b)) = let f = begins_free c past o.running h o.path b.begins o.opens o.good in inr (o.running, b.newest, f.0, f.1)
     by (inr (inr (inl t))) = inl (record { running = t.before; there = t.call; path = o.path; opens = t.same ∙ o.opens; good = λ bad. o.good (sym t.stage ∙ bad) })
     by (inr (inr (inr s))) =
         let is : s.stands.running.call ≡ call.Open h o.path = ap (λ (v : Running). v.call) (sym s.stands.is) ∙ o.opens in
         absurd (⊎_elim
-        (λ (k : SizesStand past (turn l.at.stamp l.at.node) s.stands.running s.stands.stage s.stands.pins). no_glimpse s.stands.running k.handle is k.glimpses)
-        (λ (w : LockStand past c s.stands.running s.stands.stage ⊎ StatStand past (turn l.at.stamp l.at.node) c s.stands.running s.stands.stage s.stands.pins). ⊎_elim
-        (λ (k : LockStand past c s.stands.running s.stands.stage). no_read s.stands.running is k.read)
-        (λ (k : StatStand past (turn l.at.stamp l.at.node) c s.stands.running s.stands.stage s.stands.pins). let e : call.Open h o.path ≡ call.Stat k.stat.path = sym is ∙ k.stat.stats in absurd (cc))
+        (λ (k : BareSizesStand past (turn l.at.stamp l.at.node) s.stands.running s.stands.stage s.stands.pins). no_glimpse s.stands.running k.handle is k.glimpses)
+        (λ (w : BareLockStand past c s.stands.running s.stands.stage ⊎ BareStatStand past (turn l.at.stamp l.at.node) c s.stands.running s.stands.stage s.stands.pins). ⊎_elim
+        (λ (k : BareLockStand past c s.stands.running s.stands.stage). no_read s.stands.running is k.read)
+        (λ (k : BareStatStand past (turn l.at.stamp l.at.node) c s.stands.running s.stands.stage s.stands.pins). let e : call.Open h o.path ≡ call.Stat k.stat.path = sym is ∙ k.stat.stats in absurd (cc))
         w)
         s.stands.how)
 
@@ -107,8 +108,8 @@ told_none h (Some x) f old = by x.call refl
     by _ e = refl
 
 -- one that is refused as it begins was told nothing
-bad_opens : (head : Head) (c slot : ℕ) (past : List Line) (r : Running) → Grown head past → call_at c slot past ≡ Some r → r.stage ≡ Bad → opened r.asking ≡ None
-bad_opens head c slot past r g is bad = ap opened (bad_unasked head past g c slot r is bad)
+bad_opens : (head : Head) (c slot : ℕ) (past : List Line) (r : Running) → BareGrown head past → call_at c slot past ≡ Some r → r.stage ≡ Bad → opened r.asking ≡ None
+bad_opens head c slot past r g is bad = ap opened (bad_unasked head past (wide head past g) c slot r is bad)
 
 is_stage_bad : (s : Stage) → (s ≡ Bad) ⊎ (s ≡ Bad → ⊥)
 is_stage_bad Bad = inl refl
@@ -121,7 +122,7 @@ begun_none h k = refl
 abbrev Alone : ℕ → List Line → ℕ → ℕ → Type 0
 Alone c past slot h = (file_at c h past ≡ None) × ((other : ℕ) → Opening c past other h → other ≡ slot)
 
-alone_after : (head : Head) (c : ℕ) (l : Line) (past : List Line) → Grown head (l ∷ past) → ((slot h : ℕ) → Opening c past slot h → Alone c past slot h) → (slot h : ℕ) → Opening c (l ∷ past) slot h → Alone c (l ∷ past) slot h
+alone_after : (head : Head) (c : ℕ) (l : Line) (past : List Line) → BareGrown head (l ∷ past) → ((slot h : ℕ) → Opening c past slot h → Alone c past slot h) → (slot h : ℕ) → Opening c (l ∷ past) slot h → Alone c (l ∷ past) slot h
 alone_after head c l past g before slot h o = (unbound l.at.node l.entry g.0.ok o, alone)
   where
     -- which began in the line finds no other
@@ -149,7 +150,7 @@ alone_after head c l past g before slot h o = (unbound l.at.node l.entry g.0.ok 
     was : file_at c h past ≡ None
     was = free (opening_before head c slot h l past g o)
 
-    unbound : (node : Node) (e : Entry) → EntryOk past (turn l.at.stamp node) node e → Opening c (line (turn l.at.stamp node) e ∷ past) slot h → file_at c h (line (turn l.at.stamp node) e ∷ past) ≡ None
+    unbound : (node : Node) (e : Entry) → BareOk past (turn l.at.stamp node) node e → Opening c (line (turn l.at.stamp node) e ∷ past) slot h → file_at c h (line (turn l.at.stamp node) e ∷ past) ≡ None
     unbound (Client d) (Begin s running) ok k =
         cond_both (nat_eq c d) (begun_file h running.call (file_at c h past)) (file_at c h past) (λ (v : Option HandleFile). v ≡ None)
         (λ t. ap (begun_file h running.call) was ∙ begun_none h running.call) (λ t. was)
@@ -193,7 +194,7 @@ alone_after head c l past g before slot h o = (unbound l.at.node l.entry g.0.ok 
     unbound (Target u) (Life w) ok k = absurd ok
     unbound node e ok k = was
 
-pub open_alone : (head : Head) (c : ℕ) (past : List Line) → Grown head past → (slot h : ℕ) → Opening c past slot h → Alone c past slot h
+pub open_alone : (head : Head) (c : ℕ) (past : List Line) → BareGrown head past → (slot h : ℕ) → Opening c past slot h → Alone c past slot h
 open_alone head c [] g slot h o = let none = o.there in absurd (cc)
 open_alone head c (l ∷ past) g slot h o = alone_after head c l past g (open_alone head c past g.1) slot h o
 
@@ -208,7 +209,7 @@ closes_other : (h offset count : ℕ) (k : Call) (old : Option HandleFile) → r
 closes_other h offset count (call.Close other) old e = ap (λ (b : Bool). if b then None else old) e
 closes_other h offset count k old e = refl
 
-pub file_still : (head : Head) (c h offset count : ℕ) (l : Line) (past : List Line) (f : HandleFile) → Grown head (l ∷ past) → gives_up c l.at.node l.entry ≡ false
+pub file_still : (head : Head) (c h offset count : ℕ) (l : Line) (past : List Line) (f : HandleFile) → BareGrown head (l ∷ past) → gives_up c l.at.node l.entry ≡ false
     → KeepsHandles c l.at.node l.entry (call.Read h offset count) → file_at c h past ≡ Some f
     → file_at c h (l ∷ past) ≡ Some f
 file_still head c h offset count l past f g stays keeps is = by l.at.node l.entry g.0.ok stays keeps
@@ -216,7 +217,7 @@ file_still head c h offset count l past f g stays keeps is = by l.at.node l.entr
     opened_none : (s : ℕ) → Opening c past s h → ⊥
     opened_none s o = let none : file_at c h past ≡ None = (open_alone head c past g.1 s h o).0 in cc
 
-    by : (node : Node) (e : Entry) → EntryOk past (turn l.at.stamp node) node e → gives_up c node e ≡ false → KeepsHandles c node e (call.Read h offset count) → file_at c h (line (turn l.at.stamp node) e ∷ past) ≡ Some f
+    by : (node : Node) (e : Entry) → BareOk past (turn l.at.stamp node) node e → gives_up c node e ≡ false → KeepsHandles c node e (call.Read h offset count) → file_at c h (line (turn l.at.stamp node) e ∷ past) ≡ Some f
     by (Client d) (Begin s running) ok st k =
         cond_both (nat_eq c d) (begun_file h running.call (file_at c h past)) (file_at c h past) (λ (v : Option HandleFile). v ≡ Some f) (λ t. closes_other h offset count running.call (file_at c h past) (k t) ∙ is) (λ t. is)
     by (Client d) (Told s named given work) ok st k =

@@ -15,8 +15,7 @@ use Rattle.lu_base.specs.declared.ids.Stamp.{Stamp}
 use Rattle.lu_base.specs.declared.locks.Extent.{Extent}
 use Rattle.lu_base.specs.declared.locks.Lock.{Lock}
 use Rattle.lu_base.specs.declared.locks.Mode.TheVariants.{PR}
-use Rattle.lu_base.specs.declared.locks.Policy.{Policy}
-use Rattle.lu_base.specs.declared.locks.Policy.TheVariants.{Bits, Range}
+use Rattle.lu_base.specs.declared.locks.Policy.TheVariants.{Range}
 use Rattle.lu_base.specs.declared.locks.Resource.{Resource}
 use Rattle.lu_layout.specs.Raid0.{Raid0, stripe_of, offset_of}
 use Rattle.lu_lock.specs.Growth.{the_end}
@@ -39,21 +38,20 @@ use Rattle.lu_client_rows.specs.Patches.{to_end}
 use Rattle.lu_client_rows.specs.Stripes.{below_on, stripes}
 use Rattle.lu_client_rows.specs.Wants.{want, wants_run, wants_rest, wants_of}
 use Rattle.lu_covered.specs.Calls.{call_at, file_at, file_for}
+use Rattle.lu_covered.specs.Deeds.{whole}
 use Rattle.lu_covered.specs.Heads.{Head}
 use Rattle.lu_laws.specs.Words.Calls.{call_in}
 use Rattle.lu_laws.specs.Words.Lives.{who_is}
 use Rattle.lu_laws.specs.Words.Repeats.{calm}
-use Rattle.lu_guards.proofs.Acts.{IsBits, ReadLock, KindOf}
-use Rattle.lu_guards.proofs.Guards.{In, HasRange, Locked, Unless, HadLock, Begins, ReadToldOk}
-use Rattle.lu_guards.proofs.Grown.{Grown}
+use Rattle.lu_guards.proofs.Guards.{In, Locked, HasRange, Unless, HadLock, Begins}
 use Rattle.lu_guards.proofs.Lists.{self, turn, in_filtered}
 use Rattle.lu_guards.proofs.ClientLocks.{ordered_in}
 use Rattle.lu_guards.proofs.Held.{held_in}
-use Rattle.lu_guards.proofs.LockKinds.{held_kind}
 use Rattle.lu_facts.proofs.Groups.{Gave}
 use Rattle.lu_facts.proofs.All.{holds}
 use Rattle.lu_guards.proofs.Calls.{Came, call_cases}
-use Rattle.lu_facts.proofs.Lines.{only_more}
+use Rattle.lu_facts.proofs.BareGuards.{BareReadToldOk, BareGrown, wide}
+use Rattle.lu_facts.proofs.BareGave.{gave_line, held_bare}
 use Rattle.lu_facts.proofs.HeldThere.{There, changed_there, used_there}
 use Rattle.lu_lawful.proofs.SilentHeld.{Lasts, Unmarked, Present, Stays, lasts_clear, held_stays}
 use Rattle.lu_lawful.proofs.SilentLasts.{objects_last}
@@ -146,7 +144,7 @@ rest_with l fid p (i ∷ is) u (inr j) = with_more (want l fid PR i (to_end (bel
 same_resources : (a b : Resource) → a ≡ b → same_resource a b ≡ true
 same_resources a b e = subst (λ (v : Resource). same_resource a v ≡ true) e (and_from (nat_eq a.fid.0 a.fid.0) (nat_eq a.stripe a.stripe) (self a.fid.0) (self a.stripe))
 
-whole_serves : (u : Use) (h : HeldLock) → ToRead u → ReadLock h.lock → h.target.0 ≡ u.target.0 → h.lock.resource ≡ u.resource → h.marked ≡ false → matches (ServingToTheEnd u) h ≡ true
+whole_serves : (u : Use) (h : HeldLock) → ToRead u → (h.lock.ask.mode ≡ PR) × (h.lock.ask.policy ≡ Range whole) → h.target.0 ≡ u.target.0 → h.lock.resource ≡ u.resource → h.marked ≡ false → matches (ServingToTheEnd u) h ≡ true
 whole_serves u h r k target resource calm =
     rw (ap (λ (n : ℕ). nat_eq n u.target.0) target ∙ self u.target.0, same_resources h.lock.resource u.resource resource, calm, k.0, k.1, r.reads, r.policy)
     (and_from (nat_le 0 r.extent.first && nat_le r.extent.last the_end) true (and_from (nat_le 0 r.extent.first) (nat_le r.extent.last the_end) from_low up_to) refl)
@@ -167,34 +165,22 @@ one_served u held h i fits none = by (those (ServingToTheEnd u) held) refl (in_f
 -- ---- what is held of an object stays held
 
 module _ (head : Head) (c : ℕ) where
-  gave_at : (past : List Line) → Grown head past → (t : ℕ) (h : HeldLock) → h.target.0 ≡ t → In h (held_at c past) → (d : Deed) × Gave (only t past) d h.lock
+  gave_at : (past : List Line) → BareGrown head past → (t : ℕ) (h : HeldLock) → h.target.0 ≡ t → In h (held_at c past) → (d : Deed) × Gave (only t past) d h.lock
   gave_at past g t h at i =
-      let k = ((holds head past g).at t).locks.held c h (subst (λ (v : ℕ). In h (held_at c (only v past))) at (held_in c past h i)) in
+      let k = ((holds head past (wide head past g)).at t).locks.held c h (subst (λ (v : ℕ). In h (held_at c (only v past))) at (held_in c past h i)) in
       (k.deed, k.gave)
 
-  -- a lock on a range of bytes is one to read under, on the whole of an object
-  range_reads : (past : List Line) → Grown head past → (h : HeldLock) → In h (held_at c past) → HasRange h.lock.ask.policy → (0 < h.target.0) × ReadLock h.lock
-  range_reads past g h i r = by (held_kind head h.target.0 past g c h (held_in c past h i))
-    where
-      no_range : (p : Policy) → IsBits p → HasRange p → ⊥
-      no_range (Bits bits) b r = r
-      no_range (Range extent) b r = b
+  lasts : (past : List Line) (wanted : Use) → BareGrown head past → (k : Locked c past wanted) → Lasts k.holding
+  lasts past wanted g k = objects_last head c past g k.holding k.held (held_bare head past c k.holding g k.held k.ranged).0
 
-      by : KindOf h.target.0 h.lock → (0 < h.target.0) × ReadLock h.lock
-      by (inl k) = absurd (no_range h.lock.ask.policy k.1.1 r)
-      by (inr k) = k
-
-  lasts : (past : List Line) (wanted : Use) → Grown head past → (k : Locked c past wanted) → Lasts k.holding
-  lasts past wanted g k = objects_last head c past g k.holding k.held (range_reads past g k.holding k.held k.ranged).0
-
-  pub locked_still : (l : Line) (past : List Line) (wanted : Use) → Grown head (l ∷ past) → Stays c past l.at.node l.entry → Locked c past wanted → Locked c (l ∷ past) wanted
+  pub locked_still : (l : Line) (past : List Line) (wanted : Use) → BareGrown head (l ∷ past) → Stays c past l.at.node l.entry → Locked c past wanted → Locked c (l ∷ past) wanted
   locked_still l past wanted g stays k =
       let t = k.holding.target.0 in
       let x = k.holding.lock.cookie.0 in
       let p : Present t x (held_at c (l ∷ past)) = held_stays c past l.at.stamp t x l.at.node l.entry g.0.ok stays (k.holding, (k.held, ((refl, refl), lasts past wanted g.1 k))) in
       let old = gave_at past g.1 t k.holding refl k.held in
       let new = gave_at (l ∷ past) g t p.0 p.1.1.0.0 p.1.0 in
-      let one = ((holds head (l ∷ past) g).at t).locks.once old.0 new.0 k.holding.lock p.0.lock (only_more t l past old.0 old.1.0, old.1.1) new.1 (cookies k.holding.lock.cookie p.0.lock.cookie (sym p.1.1.0.1)) in
+      let one = ((holds head (l ∷ past) (wide head (l ∷ past) g)).at t).locks.once old.0 new.0 k.holding.lock p.0.lock (gave_line t l past old.0 k.holding.lock old.1) new.1 (cookies k.holding.lock.cookie p.0.lock.cookie (sym p.1.1.0.1)) in
       record {
         holding = p.0;
         held = p.1.0;
@@ -211,7 +197,7 @@ module _ (head : Head) (c : ℕ) where
   abbrev pub Free : List Line → Use → Type 0
   Free past wanted = (k : Locked c past wanted) × (k.holding.marked ≡ false)
 
-  pub locked_free : (past : List Line) (wanted : Use) → Grown head past → Unmarked (held_at c past) → Locked c past wanted → Free past wanted
+  pub locked_free : (past : List Line) (wanted : Use) → BareGrown head past → Unmarked (held_at c past) → Locked c past wanted → Free past wanted
   locked_free past wanted g calm k = (k, lasts_clear (held_at c past) calm k.holding k.held (lasts past wanted g k))
 
   abbrev Fits : Use → HeldLock → Type 0
@@ -240,10 +226,10 @@ module _ (head : Head) (c : ℕ) where
       (λ o. used_there (Fits wanted) t n name (changed name lock.Unpin (held_at c past)) (changed_there (Fits wanted) t n name lock.Unpin (held_at c past) (λ h i e w. w) (free_there past wanted k)))
       (λ o. free_there past wanted k))
 
-  pub free_serves : (past : List Line) (wide u : Use) → Grown head past → Free past wide → ToRead u → wide.target ≡ u.target → wide.resource ≡ u.resource → serving u (held_at c past) ≡ None → ⊥
+  pub free_serves : (past : List Line) (wide u : Use) → BareGrown head past → Free past wide → ToRead u → wide.target ≡ u.target → wide.resource ≡ u.resource → serving u (held_at c past) ≡ None → ⊥
   free_serves past wide u g k reads target resource none =
       one_served u (held_at c past) k.0.holding k.0.held
-      (whole_serves u k.0.holding reads (range_reads past g k.0.holding k.0.held k.0.ranged).1 (k.0.of_target ∙ ap (λ v. v.0) target) (k.0.of_object ∙ resource) k.1)
+      (whole_serves u k.0.holding reads (held_bare head past c k.0.holding g k.0.held k.0.ranged).1 (k.0.of_target ∙ ap (λ v. v.0) target) (k.0.of_object ∙ resource) k.1)
       none
 
   -- ---- what a call that stands calm once held, it holds; and the file of a read that does is that of its handle
@@ -251,11 +237,11 @@ module _ (head : Head) (c : ℕ) where
   abbrev Had : (slot : ℕ) → Use → Line → List Line → Entry → Type 0
   Had slot wanted l past e = elim e [ Begin s running ↦ Unless (is_client c l.at.node && s == slot) (HadLock c slot wanted past) | _ ↦ HadLock c slot wanted past ]
 
-  pub calm_locked : (slot : ℕ) (wanted : Use) (past : List Line) → Grown head past → (x : ℕ × Call) → In x (calm (who_is c (printed past)) (printed past)) → x.0 ≡ slot → HadLock c slot wanted past → Locked c past wanted
+  pub calm_locked : (slot : ℕ) (wanted : Use) (past : List Line) → BareGrown head past → (x : ℕ × Call) → In x (calm (who_is c (printed past)) (printed past)) → x.0 ≡ slot → HadLock c slot wanted past → Locked c past wanted
   calm_locked slot wanted [] g x i at had = absurd had
   calm_locked slot wanted (l ∷ past) g x i at (inl now) = now
   calm_locked slot wanted (l ∷ past) g x i at (inr had) =
-      by l.entry had (λ other before. locked_still l past wanted g (calm_stays head c l past g x i) (calm_locked slot wanted past g.1 x (calm_line head c slot l past g other x at i) at before))
+      by l.entry had (λ other before. locked_still l past wanted g (calm_stays head c l past (wide head (l ∷ past) g) x i) (calm_locked slot wanted past g.1 x (calm_line head c slot l past (wide head (l ∷ past) g) other x at i) at before))
     where
       unless : (b : Bool) → Unless b (HadLock c slot wanted past) → (b ≡ false) × HadLock c slot wanted past
       unless true h = absurd h
@@ -265,12 +251,12 @@ module _ (head : Head) (c : ℕ) where
       by (Begin s running) h more = let r = unless (is_client c l.at.node && s == slot) h in more r.0 r.1
       by e h more = more tt h
 
-  pub calm_file : (past : List Line) → Grown head past → (x : ℕ × Call) → In x (calm (who_is c (printed past)) (printed past)) → (r : Running) → call_at c x.0 past ≡ Some r → (f : HandleFile) → r.file ≡ Some f
+  pub calm_file : (past : List Line) → BareGrown head past → (x : ℕ × Call) → In x (calm (who_is c (printed past)) (printed past)) → (r : Running) → call_at c x.0 past ≡ Some r → (f : HandleFile) → r.file ≡ Some f
       → (h offset count : ℕ) → x.1 ≡ call.Read h offset count → file_at c h past ≡ Some f
   calm_file [] g x i r is f file h offset count reads = absurd i
   calm_file (l ∷ past) g x i r is f file h offset count reads =
-      file_still head c h offset count l past f g (calm_stays head c l past g x i).0 (calm_keeps head c l past g x i h offset count reads)
-      (by (λ q e same. calm_file past g.1 x (calm_before head c x.0 q l past g e x refl i) q e f (same ∙ file) h offset count reads) (call_cases past l.at.stamp l.at.node l.entry g.0.ok c x.0 r is))
+      file_still head c h offset count l past f g (calm_stays head c l past (wide head (l ∷ past) g) x i).0 (calm_keeps head c l past (wide head (l ∷ past) g) x i h offset count reads)
+      (by (λ q e same. calm_file past g.1 x (calm_before head c x.0 q l past (wide head (l ∷ past) g) e x refl i) q e f (same ∙ file) h offset count reads) (call_cases past l.at.stamp l.at.node l.entry g.0.wide.ok c x.0 r is))
     where
       began : Begins c past r → r.call ≡ call.Read h offset count → file_at c h past ≡ Some f
       began (inl b) k = ap (file_for c past) (sym k) ∙ sym b.2 ∙ file
@@ -279,9 +265,9 @@ module _ (head : Head) (c : ℕ) where
       by : ((q : Running) → call_at c x.0 past ≡ Some q → q.file ≡ r.file → file_at c h past ≡ Some f) → Came past (turn l.at.stamp l.at.node) l.at.node l.entry c x.0 r → file_at c h past ≡ Some f
       by before (inl e) = before r e refl
       by before (inr (inl b)) =
-          let here : call_in c x.0 (printed (l ∷ past)) ≡ Some r.call = call_is head c x.0 (l ∷ past) g ∙ ap called is in
+          let here : call_in c x.0 (printed (l ∷ past)) ≡ Some r.call = call_is head c x.0 (l ∷ past) (wide head (l ∷ past) g) ∙ ap called is in
           let stands : call_in c x.0 (printed (l ∷ past)) ≡ Some x.1 =
-          every_in (StandsIn (λ k. call_in c k (printed (l ∷ past)))) x (calm (who_is c (printed (l ∷ past))) (printed (l ∷ past))) (calm_stands head c (l ∷ past) g) i
+          every_in (StandsIn (λ k. call_in c k (printed (l ∷ past)))) x (calm (who_is c (printed (l ∷ past))) (printed (l ∷ past))) (calm_stands head c (l ∷ past) (wide head (l ∷ past) g)) i
           in
           began b.begins (one_call r.call x.1 (sym here ∙ stands) ∙ reads)
         where
@@ -311,7 +297,7 @@ abbrev pub files_at : ℕ → List Line → ℕ → Option HandleFile
 files_at c past = λ h. file_at c h past
 
 -- it was told calm
-pub read_told : (head : Head) (c slot : ℕ) (past : List Line) (at named : At) (given : Answer) (work : Option Work) → Grown head past → (ok : ReadToldOk past at c slot named given work)
+pub read_told : (head : Head) (c slot : ℕ) (past : List Line) (at named : At) (given : Answer) (work : Option Work) → BareGrown head past → (ok : BareReadToldOk past at c slot named given work)
     → (x : ℕ × Call) → In x (calm (who_is c (printed past)) (printed past)) → x.0 ≡ slot → ok.running.call ≡ x.1 → ReadKnown (files_at c past) (Locked c past) ok.running.call
 read_told head c slot past at named given work g ok x i is same =
     subst (ReadKnown (files_at c past) (Locked c past)) (sym ok.read.reads)
@@ -322,7 +308,7 @@ read_told head c slot past at named given work g ok x i is same =
     })
 
 -- where none of those locks is marked, it asks for none
-pub read_asks_none : (head : Head) (c : ℕ) (past : List Line) (h offset count : ℕ) → Grown head past → (k : KnownRead (files_at c past) (Free head c past) h offset count) → offset + count ≤ 2 ^ 40
+pub read_asks_none : (head : Head) (c : ℕ) (past : List Line) (h offset count : ℕ) → BareGrown head past → (k : KnownRead (files_at c past) (Free head c past) h offset count) → offset + count ≤ 2 ^ 40
     → (wanted : Use) → In wanted (wants_of k.file.layout k.file.fid (Narrow offset count)) ⊎ In wanted (wants_of k.file.layout k.file.fid (Wide offset count)) → serving wanted (held_at c past) ≡ None → ⊥
 read_asks_none head c past h offset count g k limit wanted among none = by among
   where

@@ -32,8 +32,7 @@ use Rattle.lu_laws.specs.Words.Sends.{Sending, sending, message_of}
 use Rattle.lu_laws.specs.Words.Lives.{life, who_is, is_by}
 use Rattle.lu_laws.specs.Words.Repeats.{disturbs, unready_with, unready_after, unready, is_ready, begun_calm, calm, told_calm, known, is_error}
 use Rattle.lu_guards.proofs.Guards.{In, Was, TookNow, is_ready_for, is_welcome}
-use Rattle.lu_guards.proofs.StoryGuards.{EntryOf}
-use Rattle.lu_guards.proofs.Grown.{Allowed, Grown, GrownOf}
+use Rattle.lu_guards.proofs.Grown.{Allowed, Grown}
 use Rattle.lu_guards.proofs.Held.{held_in}
 use Rattle.lu_guards.proofs.Lists.{self, in_filter, in_filtered, life_is, life_self}
 use Rattle.lu_laws.proofs.Tests.{clash}
@@ -42,6 +41,8 @@ use Rattle.lu_guards.proofs.Parts.{standing_is, known_is, life_is_of}
 use Rattle.lu_facts.proofs.Groups.{turn}
 use Rattle.lu_facts.proofs.Lives.{still_joins}
 use Rattle.lu_facts.proofs.All.{holds_at}
+use Rattle.lu_facts.proofs.BareGuards.{BareOf, BareGrown, BareGrownOf, wide, wide_of}
+use Rattle.lu_facts.proofs.Bare.{bare_grown_of}
 use Rattle.lu_lawful.proofs.Printed.{flip, sending_is}
 use Rattle.lu_lawful.proofs.SilentHeld.{Unmarked}
 use Rattle.lu_lawful.proofs.SilentReady.{ready_own}
@@ -52,7 +53,7 @@ module _ (head : Head) (c : ℕ) where
   abbrev Bare : List Line → Type 0
   Bare p = (held_at c p ≡ []) × ((f : Flight) → In f (flights_of (life_of c p) p) → ⊥)
 
-  joins_bare : (p : List Line) → GrownOf head p → standing_of c p ≡ Joining → Bare p
+  joins_bare : (p : List Line) → BareGrownOf head p → standing_of c p ≡ Joining → Bare p
   joins_bare [] g s = (refl, λ f i. i)
   joins_bare (l ∷ p) g s = by l.at.node l.entry g.0 s (joins_bare p g.3)
     where
@@ -73,9 +74,9 @@ module _ (head : Head) (c : ℕ) where
       none false more e h = h
 
       its : (d : ℕ) → same_life W (life_of d p) ≡ true → c ≡ d
-      its d e = let phase = (holds_at head p g.3).phase in sym (phase.client c) ∙ ap (λ (v : Who). v.client) (life_is W (life_of d p) e) ∙ phase.client d
+      its d e = let phase = (holds_at head p (wide_of head p g.3)).phase in sym (phase.client c) ∙ ap (λ (v : Who). v.client) (life_is W (life_of d p) e) ∙ phase.client d
 
-      by : (node : Node) (e : Entry) → EntryOf head p (turn l.at.stamp node) node e → standing_of c (line (turn l.at.stamp node) e ∷ p) ≡ Joining → (S ≡ Joining → Bare p) → Bare (line (turn l.at.stamp node) e ∷ p)
+      by : (node : Node) (e : Entry) → BareOf head p (turn l.at.stamp node) node e → standing_of c (line (turn l.at.stamp node) e ∷ p) ≡ Joining → (S ≡ Joining → Bare p) → Bare (line (turn l.at.stamp node) e ∷ p)
       by (Client d) (Knows t b) ok s ih = ih (cond_both (nat_eq c d) (interrupted S) S (λ (v : Standing). v ≡ Joining → S ≡ Joining) (λ q r. still_joins S r) (λ q r. r) s)
       by (Client d) (Serves t b) ok s ih = ih (cond_both (nat_eq c d) Serving S (λ (v : Standing). v ≡ Joining → S ≡ Joining) (λ q r. absurd (cc)) (λ q r. r) s)
       by (Client d) (Life w) ok s ih = of (nat_eq c d) refl s
@@ -84,7 +85,7 @@ module _ (head : Head) (c : ℕ) where
           of true e r = (
             ap (λ (v : ℕ). held_at v p) (eqb-true c d e) ∙ ok.empty,
             λ f i.
-                let h = holds_at head p g.3 in
+                let h = holds_at head p (wide_of head p g.3) in
                 let client : w.client ≡ d = ap (λ (v : Who). v.client) ok.next ∙ h.phase.client d in
                 let next : w.life ≡ (life_of d p).life + 1 = ap (λ (v : Who). v.life) ok.next in
                 let low : w.life ≤ (life_of d p).life = subst (λ (v : ℕ). w.life ≤ (life_of v p).life) client (h.numbers.lived w f (h.numbers.flying w f i)) in
@@ -314,7 +315,7 @@ module _ (head : Head) (c u : ℕ) where
 
 -- ---- so where an answer is known, no held lock is marked as a call begins that isn't pinned
 
-pub repeats_unmarked : (head : Head) (c : ℕ) (past : List Line) → Grown head past → (k : Call) → In k (known (who_is c (printed past)) (printed past))
+pub repeats_unmarked : (head : Head) (c : ℕ) (past : List Line) → BareGrown head past → (k : Call) → In k (known (who_is c (printed past)) (printed past))
     → ((h : HeldLock) → In h (held_at c past) → standing_at c h.target.0 past ≡ Serving → h.pins ≡ 0 → h.marked ≡ false)
     → ((t : ℕ) → is_welcome c t past ≡ false) → Unmarked (held_at c past)
 repeats_unmarked head c past g k i calm ready h j free = by (standing_at c h.target.0 past) refl
@@ -327,5 +328,5 @@ repeats_unmarked head c past g k i calm ready h j free = by (standing_at c h.tar
 
     by : (s : Standing) → standing_at c t past ≡ s → h.marked ≡ false
     by Serving e = calm h j e free
-    by Joining e = absurd (subst (λ (v : List HeldLock). In h v) (joins_bare head c (only t past) (grown_of head t past g) (sym (standing_is c t past) ∙ e)).0 there)
-    by Recovering e = absurd (subst (λ (v : List Call). In k v) (stopped head c t past g e (ready t)).knows i)
+    by Joining e = absurd (subst (λ (v : List HeldLock). In h v) (joins_bare head c (only t past) (bare_grown_of head t past g) (sym (standing_is c t past) ∙ e)).0 there)
+    by Recovering e = absurd (subst (λ (v : List Call). In k v) (stopped head c t past (wide head past g) e (ready t)).knows i)

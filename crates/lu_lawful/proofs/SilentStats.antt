@@ -36,13 +36,14 @@ use Rattle.lu_covered.specs.Heads.{Head}
 use Rattle.lu_covered.specs.TargetStates.{server_of, evicted_of}
 use Rattle.lu_laws.specs.Words.Lives.{who_is}
 use Rattle.lu_laws.specs.Words.Repeats.{calm}
-use Rattle.lu_guards.proofs.Guards.{In, Begins, LacksOf, KnowsFile, ToldFile, GoesOn, Locked, SizesStand, LockStand, StatOf, StatStand, StandsOk, StatToldOk}
+use Rattle.lu_guards.proofs.Guards.{In, Begins, LacksOf, KnowsFile, ToldFile, Locked}
 use Rattle.lu_guards.proofs.Grown.{Grown, GrownOf}
 use Rattle.lu_guards.proofs.Only.{grown_of}
-use Rattle.lu_guards.proofs.Calls.{Stood, Came, call_cases}
 use Rattle.lu_guards.proofs.ClientLooks.{lacks_in}
 use Rattle.lu_facts.proofs.Groups.{turn}
 use Rattle.lu_facts.proofs.All.{holds_at}
+use Rattle.lu_facts.proofs.BareGuards.{BareGoesOn, BareSizesStand, BareLockStand, BareStatOf, BareStatStand, BareStandsOk, BareStatToldOk, BareGrown, wide}
+use Rattle.lu_facts.proofs.BareCases.{BareStood, BareCame, bare_cases}
 use Rattle.lu_facts.proofs.KnownPaths.{Usable, UsedBy, LedBy, FileBy, Tells, TellsAttr, TellsOf, OneKind, part_is, placed_reached, led_more, file_more, led_used, file_used, file_right, after_name}
 use Rattle.lu_facts.proofs.PartsStay.{sound_now}
 use Rattle.lu_facts.proofs.Taught.{tree_for}
@@ -238,8 +239,8 @@ module _ (head : Head) (c slot : ℕ) where
       → (w : Work) → IsOn r.stage w → SomeFile (bare_at c past) path w.fid w.layout
 
   -- what it tells, or goes on for
-  stat_of : (past : List Line) (at : At) → Grown head past → at.node ≡ Client c → Going past → (x : ℕ × Call) → In x (calm (who_is c (printed past)) (printed past)) → x.0 ≡ slot → (r : Running) → call_at c slot past ≡ Some r
-      → (pins : List LockName) → (s : StatOf past at c r pins) → SomeFile (bare_at c past) s.path s.fid s.layout
+  stat_of : (past : List Line) (at : At) → BareGrown head past → at.node ≡ Client c → Going past → (x : ℕ × Call) → In x (calm (who_is c (printed past)) (printed past)) → x.0 ≡ slot → (r : Running) → call_at c slot past ≡ Some r
+      → (pins : List LockName) → (s : BareStatOf past at c r pins) → SomeFile (bare_at c past) s.path s.fid s.layout
   stat_of past at g own before x i is r there pins s = by s.from
     where
       N : Notes
@@ -248,36 +249,36 @@ module _ (head : Head) (c slot : ℕ) where
       grows : Grows (notes_at c past) (bare_at c past)
       grows = grows_to_bare (facts_at c past) (held_at c past)
 
-      by : KnowsFile past at c r pins s.fid s.mode s.links s.layout ⊎ (ToldFile past at c r pins s.path s.fid s.mode s.links s.layout ⊎ GoesOn r pins s.fid s.mode s.links s.layout) → SomeFile (bare_at c past) s.path s.fid s.layout
+      by : KnowsFile past at c r pins s.fid s.mode s.links s.layout ⊎ (ToldFile past at c r pins s.path s.fid s.mode s.links s.layout ⊎ BareGoesOn r pins s.fid s.mode s.links s.layout) → SomeFile (bare_at c past) s.path s.fid s.layout
       by (inl k) =
           let known : file_known N (found_at_path N s.path) ≡ Some k.file = ap (known_file N) (sym s.stats) ∙ k.known in
           subst (λ (v : Fid). SomeFile (bare_at c past) s.path v s.layout) (sym k.of_fid)
           (subst (λ (v : Raid0). SomeFile (bare_at c past) s.path k.file.fid v) (sym k.of_layout)
           (some_more N (bare_at c past) grows s.path k.file.fid k.file.layout
           (k.file.mode, k.file.links, file_more (UsedBy N k.file.cookies) (Usable N) (λ f u. u.0) s.path k.file.fid k.file.mode k.file.links k.file.layout (file_used N s.path k.file known))))
-      by (inr (inl k)) = some_more N (bare_at c past) grows s.path s.fid s.layout (told_some N s.path s.fid s.layout (told_file head past at c slot r pins s.path s.fid s.mode s.links s.layout g own there s.stats k))
+      by (inr (inl k)) = some_more N (bare_at c past) grows s.path s.fid s.layout (told_some N s.path s.fid s.layout (told_file head past at c slot r pins s.path s.fid s.mode s.links s.layout (wide head past g) own there s.stats k))
       by (inr (inr k)) =
           subst (λ (v : Fid). SomeFile (bare_at c past) s.path v s.layout) (sym k.of_fid)
           (subst (λ (v : Raid0). SomeFile (bare_at c past) s.path k.work.fid v) (sym k.of_layout) (before x i is r there s.path s.stats k.work k.stage))
 
-  going : (past : List Line) → Grown head past → Going past
+  going : (past : List Line) → BareGrown head past → Going past
   going [] g x i is r there path stats w on = absurd i
-  going (l ∷ past) g x i is r there path stats w on = by (λ y j e q h p k v o. going past g.1 y j e q h p k v o) (call_cases past l.at.stamp l.at.node l.entry g.0.ok c slot r there)
+  going (l ∷ past) g x i is r there path stats w on = by (λ y j e q h p k v o. going past g.1 y j e q h p k v o) (bare_cases head past l.at.stamp l.at.node l.entry g.0 c slot r there)
     where
       -- what was known before the line
       carry : (q : Running) → call_at c slot past ≡ Some q → (In x (calm (who_is c (printed past)) (printed past)) → SomeFile (bare_at c past) path w.fid w.layout) → SomeFile (bare_at c (l ∷ past)) path w.fid w.layout
       carry q e k =
-          some_more (bare_at c past) (bare_at c (l ∷ past)) (notes_grow c past l.at.stamp l.at.node l.entry g.0.ok (calm_stays head c l past g x i)) path w.fid w.layout
-          (k (calm_before head c slot q l past g e x is i))
+          some_more (bare_at c past) (bare_at c (l ∷ past)) (notes_grow c past l.at.stamp l.at.node l.entry g.0.ok (calm_stays head c l past (wide head (l ∷ past) g) x i)) path w.fid w.layout
+          (k (calm_before head c slot q l past (wide head (l ∷ past) g) e x is i))
 
       began : Begins c past r → ⊥
       began (inl b) = not_on r.stage Plain w b.1 (plain_off w) on
       began (inr b) = not_on r.stage Bad w b.1 (bad_off w) on
 
-      stood : Going past → (s : Stood past (turn l.at.stamp l.at.node) c slot r) → l.at.node ≡ Client c → SomeFile (bare_at c (l ∷ past)) path w.fid w.layout
+      stood : Going past → (s : BareStood past (turn l.at.stamp l.at.node) c slot r) → l.at.node ≡ Client c → SomeFile (bare_at c (l ∷ past)) path w.fid w.layout
       stood before s own = how s.stands.how
         where
-          ok : StandsOk past (turn l.at.stamp l.at.node) c slot r
+          ok : BareStandsOk past (turn l.at.stamp l.at.node) c slot r
           ok = s.stands
 
           stats_so : ok.running.call ≡ call.Stat path
@@ -286,7 +287,7 @@ module _ (head : Head) (c slot : ℕ) where
           on_so : IsOn ok.stage w
           on_so = subst (λ (v : Stage). IsOn v w) (ap (λ (v : Running). v.stage) ok.is) on
 
-          how : SizesStand past (turn l.at.stamp l.at.node) ok.running ok.stage ok.pins ⊎ (LockStand past c ok.running ok.stage ⊎ StatStand past (turn l.at.stamp l.at.node) c ok.running ok.stage ok.pins)
+          how : BareSizesStand past (turn l.at.stamp l.at.node) ok.running ok.stage ok.pins ⊎ (BareLockStand past c ok.running ok.stage ⊎ BareStatStand past (turn l.at.stamp l.at.node) c ok.running ok.stage ok.pins)
               → SomeFile (bare_at c (l ∷ past)) path w.fid w.layout
           how (inl k) = absurd (not_on ok.stage (Sizes k.work) w k.is (sizes_off k.work w) on_so)
           how (inr (inl k)) = let both : call.Stat path ≡ call.Read k.read.handle k.read.offset k.read.count = sym stats_so ∙ k.read.reads in absurd (cc)
@@ -305,14 +306,14 @@ module _ (head : Head) (c slot : ℕ) where
               stands (inl q) = inl q.0
               stands (inr q) = inr (q.0, q.1)
 
-      by : Going past → Came past (turn l.at.stamp l.at.node) l.at.node l.entry c slot r → SomeFile (bare_at c (l ∷ past)) path w.fid w.layout
+      by : Going past → BareCame past (turn l.at.stamp l.at.node) l.at.node l.entry c slot r → SomeFile (bare_at c (l ∷ past)) path w.fid w.layout
       by before (inl e) = carry r e (λ j. before x j is r e path stats w on)
       by before (inr (inl b)) = absurd (began b.begins)
       by before (inr (inr (inl t))) = carry t.before t.call (λ j. before x j is t.before t.call path (t.same ∙ stats) w (subst (λ (v : Stage). IsOn v w) (sym t.stage) on))
       by before (inr (inr (inr s))) = stood before s s.own
 
 -- a stat that is told calm is known
-pub stat_told : (head : Head) (c slot : ℕ) (past : List Line) (at named : At) (given : Answer) (work : Option Work) → Grown head past → at.node ≡ Client c → (ok : StatToldOk past at c slot named given work)
+pub stat_told : (head : Head) (c slot : ℕ) (past : List Line) (at named : At) (given : Answer) (work : Option Work) → BareGrown head past → at.node ≡ Client c → (ok : BareStatToldOk past at c slot named given work)
     → (x : ℕ × Call) → In x (calm (who_is c (printed past)) (printed past)) → x.0 ≡ slot → StatKnown (bare_at c past) (Locked c past) ok.running.call
 stat_told head c slot past at named given work g own ok x i is =
     subst (StatKnown (bare_at c past) (Locked c past)) (sym ok.stat.stats)
@@ -325,20 +326,20 @@ stat_told head c slot past at named given work g own ok x i is =
 
 -- ---- one that is known as it begins, while none of those locks is marked, asks for nothing
 
-module _ (head : Head) (c : ℕ) (past : List Line) (g : Grown head past) where
+module _ (head : Head) (c : ℕ) (past : List Line) (g : BareGrown head past) where
   pub stat_asks_none : (k : Call) → StatKnown (notes_at c past) (Free head c past) k → known_file (notes_at c past) k ≡ None → ⊥
-  stat_asks_none (call.Stat path) k none = file_there head c past g path k.fid k.layout k.file none
+  stat_asks_none (call.Stat path) k none = file_there head c past (wide head past g) path k.fid k.layout k.file none
   stat_asks_none k h none = h
 
   -- nor does it wait for a lock
   pub stat_waits_none : (at : At) (r : Running) (stage : Stage) (pins : List LockName) → r.stage ≡ Plain → r.asking ≡ Unasked → KnownBy (notes_at c past) (files_at c past) (Free head c past) r.call
-      → StatStand past at c r stage pins → ⊥
+      → BareStatStand past at c r stage pins → ⊥
   stat_waits_none at r stage pins plain new known k = by k.stat.from
     where
       N : Notes
       N = notes_at c past
 
-      S : StatOf past at c r pins
+      S : BareStatOf past at c r pins
       S = k.stat
 
       of_stat : KnownBy N (files_at c past) (Free head c past) (call.Stat S.path)
@@ -349,7 +350,7 @@ module _ (head : Head) (c : ℕ) (past : List Line) (g : Grown head past) where
 
       begun : (file : KnownFile) → file_known N (found_at_path N S.path) ≡ Some file → S.fid ≡ file.fid → S.layout ≡ file.layout → ⊥
       begun file e fid layout = ⊎_elim
-          (λ (h : IsKnown N (call.Stat S.path) × ReadKnown (files_at c past) (Free head c past) (call.Stat S.path)). directory_alone head c past g S.path file h.0 e)
+          (λ (h : IsKnown N (call.Stat S.path) × ReadKnown (files_at c past) (Free head c past) (call.Stat S.path)). directory_alone head c past (wide head past g) S.path file h.0 e)
           (λ (h : StatBy N (Free head c past) S.path). waits h)
           of_stat
         where
@@ -361,13 +362,13 @@ module _ (head : Head) (c : ℕ) (past : List Line) (g : Grown head past) where
             where
               lacks : LacksOf past c (wants_of S.layout S.fid (Stats S.mode S.links)) k.work → ⊥
               lacks q =
-                  let one = file_one head c past g S.path h.fid h.layout file h.file e in
+                  let one = file_one head c past (wide head past g) S.path h.fid h.layout file h.file e in
                   let among : In q.wanted (wants_rest h.layout h.fid 0 (stripes h.layout)) =
                   subst (λ (v : Fid). In q.wanted (wants_rest h.layout v 0 (stripes h.layout))) (fid ∙ sym one.0)
                   (subst (λ (v : Raid0). In q.wanted (wants_rest v S.fid 0 (stripes v))) (layout ∙ sym one.1) (lacks_in past c (wants_of S.layout S.fid (Stats S.mode S.links)) k.work q)) in
                   free_serves head c past q.wanted q.wanted g (h.locked q.wanted among) (rest_with h.layout h.fid 0 (stripes h.layout) q.wanted among).0 refl refl q.lacks
 
-      by : KnowsFile past at c r pins S.fid S.mode S.links S.layout ⊎ (ToldFile past at c r pins S.path S.fid S.mode S.links S.layout ⊎ GoesOn r pins S.fid S.mode S.links S.layout) → ⊥
+      by : KnowsFile past at c r pins S.fid S.mode S.links S.layout ⊎ (ToldFile past at c r pins S.path S.fid S.mode S.links S.layout ⊎ BareGoesOn r pins S.fid S.mode S.links S.layout) → ⊥
       by (inl q) = begun q.file (ap (known_file N) (sym S.stats) ∙ q.known) q.of_fid q.of_layout
       by (inr (inl q)) = came q.target q.reply q.answered
       by (inr (inr q)) = not_on r.stage Plain q.work plain (plain_off q.work) q.stage

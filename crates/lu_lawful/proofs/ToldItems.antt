@@ -1,5 +1,5 @@
--- What is told as an item of the history: nothing, or an operation on names that reads, or a read or a flush of a file. None of these, nor any
--- transaction of a covered run, changes the bytes of a file; so no file of the plain machine ever has any, and a read of one is told none.
+-- In a run that changes no bytes, what is told as an item of the history: nothing, or an operation on names that reads, or a read or a flush of a file. None of these, nor any
+-- transaction of such a run, changes the bytes of a file; so no file of the plain machine ever has any, and a read of one is told none.
 use Rattle.std.proofs.Common.{◌≡◌, ℕ, zero, suc, ◌+◌, ◌-◌, Bool, true, false, List, [], ◌∷◌, Option, Some, None, ◌⊎◌, inl, inr, refl, sym, subst, ap, ◌∙◌, arith}
 use Rattle.std.specs.Prelude.{not, ◌&&◌, if◌then◌else◌, min, max, map, length}
 use Rattle.std.specs.List.{range_with_len}
@@ -31,7 +31,7 @@ use Rattle.lu_words.specs.Carried.{HandleFile, Stage, Plain, Bad, Running}
 use Rattle.lu_words.specs.Words.{Entry, Told, Txn as Made, Line, line}
 use Rattle.lu_words.specs.Printed.{printed}
 use Rattle.lu_covered.specs.Calls.{call_at, operation_of, becomes}
-use Rattle.lu_covered.specs.Covered.{IsOnSizes}
+use Rattle.lu_covered.specs.Covered.{IsOnBytes}
 use Rattle.lu_covered.specs.Heads.{Head}
 use Rattle.lu_covered.specs.Known.{notes_at}
 use Rattle.lu_laws.specs.Words.Pasts.{Past, same_turn}
@@ -40,9 +40,10 @@ use Rattle.lu_laws.specs.Words.Calls.{Begun, file_of}
 use Rattle.lu_laws.specs.Words.Calls.{operation as operation_in}
 use Rattle.lu_laws.specs.Words.Requests.{asked}
 use Rattle.lu_laws.specs.Words.Histories.{none, data_deed, deed_on, deed_of, act_of, names_act, call_act, is_answer, told_item, after_item, machine_of}
-use Rattle.lu_guards.proofs.Grown.{Allowed, Grown}
+use Rattle.lu_guards.proofs.Grown.{Grown}
+use Rattle.lu_facts.proofs.BareGuards.{BareAllowed, BareGrown, wide}
 use Rattle.lu_facts.proofs.Groups.{turn}
-use Rattle.lu_lawful.proofs.Facts.{TellsAt, AllTold, told_earlier}
+use Rattle.lu_lawful.proofs.Tells.{TellsAt, AllTold, told_earlier}
 use Rattle.lu_lawful.proofs.Fine.{known_operation}
 use Rattle.lu_lawful.proofs.Handles.{good_stage, file_there, meant_is}
 use Rattle.lu_lawful.proofs.Printed.{open_is}
@@ -93,7 +94,7 @@ deed_there b file (call.Read h offset count) still of = ap (data_deed b.call) of
 deed_there b file (call.Flush h) still of = ap (data_deed b.call) of
 deed_there b file x still of = absurd still
 
-still_sizes : (x : Call) → IsStill x → IsOnSizes x
+still_sizes : (x : Call) → IsStill x → IsOnBytes x
 still_sizes (call.Read h offset count) still = tt
 still_sizes (call.Flush h) still = tt
 still_sizes x still = absurd still
@@ -102,7 +103,7 @@ pub still_there : (head : Head) (past : List Line) (c slot : ℕ) (r : Running) 
     → (file : Fid) × (call_act (printed past) c slot ≡ Some (on_file (who_is c (printed past)) file r.call))
 still_there head past c slot r g is still good =
     let m = meant_is head c slot past r g is in
-    let f = file_there c slot (printed past) m.0 m.1 (subst IsOnSizes (sym m.3) (still_sizes r.call still)) (sym m.5 ∙ good_stage r.stage good) in (
+    let f = file_there c slot (printed past) m.0 m.1 (subst IsOnBytes (sym m.3) (still_sizes r.call still)) (sym m.5 ∙ good_stage r.stage good) in (
       f.0,
       ap (λ (v : Option Begun). act_of (who_is c (printed past)) none (deed_of v)) m.1 ∙ data_act c (printed past) m.0 f.0 r.call still (deed_there m.0 f.0 r.call still f.1) m.3,
     )
@@ -182,18 +183,18 @@ module _ (head : Head) (out : Who → Bool) (lost : ℕ → ℕ → Bool) where
   adds_none m who i (inr (inl k)) none = subst (λ (x : Option ActOf). NoBytes (after_item head.osts m x)) (sym k.1) none
   adds_none m who i (inr (inr f)) none = subst (λ (x : Option ActOf). NoBytes (after_item head.osts m x)) (sym f.3) (λ g. (still_stays head.osts m who f.0 f.1 f.2).bytes g ∙ none g)
 
-  pub no_bytes : (past : List Line) → Grown head past → AllTold past → NoBytes (machine past)
+  pub no_bytes : (past : List Line) → BareGrown head past → AllTold past → NoBytes (machine past)
   no_bytes [] g t = λ f. refl
   no_bytes (l ∷ past) g t = by l.at.node l.entry g.0 t (no_bytes past g.1 (told_earlier l past t))
     where
-      by : (node : Node) (e : Entry) → Allowed head past (turn l.at.stamp node) e → AllTold (line (turn l.at.stamp node) e ∷ past) → NoBytes (machine past) → NoBytes (machine (line (turn l.at.stamp node) e ∷ past))
+      by : (node : Node) (e : Entry) → BareAllowed head past (turn l.at.stamp node) e → AllTold (line (turn l.at.stamp node) e ∷ past) → NoBytes (machine past) → NoBytes (machine (line (turn l.at.stamp node) e ∷ past))
       by (Client c) (Made d) k t none = absurd k.ok
       by (Target zero) (Made d) k t none =
           cond_both (lost 0 d.reply.txn.0) None (names_act d.reply.who d.reply.txn (asked (printed past) 0 d.reply.who d.reply.xid.0)) (λ (i : Option ActOf). NoBytes (after_item head.osts (machine past) i))
           (λ _. none) (λ _. names_leave (machine past) d.reply.who d.reply.txn (asked (printed past) 0 d.reply.who d.reply.xid.0) none)
       by (Target (suc u)) (Made d) k t none = let no = k.ok in absurd (omega (arith, no))
       by (Client c) (Told slot named given work) k t none =
-          adds_none (machine past) (who_is c (printed past)) (told_item out (printed past) (turn l.at.stamp (Client c)) (Client c) slot named given) (told_adds head out past l.at.stamp c slot named given g.1 t.0) none
+          adds_none (machine past) (who_is c (printed past)) (told_item out (printed past) (turn l.at.stamp (Client c)) (Client c) slot named given) (told_adds head out past l.at.stamp c slot named given (wide head past g.1) t.0) none
       by (Target u) (Told slot named given work) k t none = absurd k.ok
       by _ _ k t none = none
 

@@ -1,5 +1,5 @@
 -- The law of acts at a call's begin, at a told line and at a request's message, and the whole of it.
-use Rattle.std.proofs.Common.{◌≡◌, ◌≢◌, ℕ, ◌+◌, ◌<◌, ◌≤◌, Bool, true, false, List, [], ◌∷◌, Option, Some, None, inl, inr, ⊎_elim, refl, sym, subst, ap, ◌∙◌, arith, pos}
+use Rattle.std.proofs.Common.{◌≡◌, ◌≢◌, ℕ, ◌+◌, ◌<◌, Bool, true, false, List, [], ◌∷◌, Option, Some, None, inl, inr, ⊎_elim, refl, sym, subst, ap, ◌∙◌, arith, pos}
 use Rattle.std.specs.Prelude.{nat_eq, not, ◌&&◌, ◌||◌, if◌then◌else◌}
 use Rattle.std.proofs.lemmas.Bool.{cond_both, and_parts, eqb-true, or_left, or_right, or_cases, false_from_ne_true}
 use Rattle.lu_base.specs.declared.ids.At.{At}
@@ -25,6 +25,7 @@ use Rattle.lu_words.specs.Words.{Entry, Begin, Send, Heard, Told, Txn as Made, L
 use Rattle.lu_words.specs.Concerns.{concerns, only}
 use Rattle.lu_words.specs.Sent.{count_sent}
 use Rattle.lu_words.specs.Printed.{printed_entry, printed}
+use Rattle.lu_client_rows.specs.States.{Store, store_at}
 use Rattle.lu_covered.specs.Calls.{life_at, call_at, operation_of, becomes, told_as}
 use Rattle.lu_covered.specs.ClientStates.{flights_of, life_of, is_own}
 use Rattle.lu_covered.specs.Heads.{Head, IsHead}
@@ -36,7 +37,7 @@ use Rattle.lu_laws.specs.Words.Calls.{heard_in, operation}
 use Rattle.lu_laws.specs.Holds.{HoldsBefore}
 use Rattle.lu_laws.specs.Laws.Acts.{acted, made, standing_count, is_number, tells_with, told_with, is_bad_handle, is_end_of_life, is_local, took_notice, ActsFor, ActsInTime, ToldOn, ToldBy, Pairwise, SameTag, FliesAt, ActsAt, ActsOf}
 use Rattle.lu_lawful.specs.Fits.{ReplyStands, HeardStand}
-use Rattle.lu_guards.proofs.Guards.{In, JustHeard, Steps, IsToldAsIs, ToldOk, KnownOk, EndsOk, BadOk, SizesToldOk, FlushedOk, ReadToldOk, StatToldOk, EntryOk}
+use Rattle.lu_guards.proofs.Guards.{In, JustHeard, Steps, IsToldAsIs, ToldOk, KnownOk, EndsOk, BadOk, ReadTells, EntryOk}
 use Rattle.lu_guards.proofs.StoryGuards.{EntryOf}
 use Rattle.lu_guards.proofs.Grown.{Allowed, Grown, GrownOf}
 use Rattle.lu_guards.proofs.Lists.{self, own_is, own_self}
@@ -44,22 +45,20 @@ use Rattle.lu_guards.proofs.Only.{grown_of}
 use Rattle.lu_guards.proofs.Turns.{Settled}
 use Rattle.lu_facts.proofs.Groups.{turn, Upto, Acted, Flew, Hears, HeardAs, HasSlot, Had, Evicted, IsMade, Stands as StandsSoFar, HoldsAt}
 use Rattle.lu_facts.proofs.All.{holds}
-use Rattle.lu_facts.proofs.Sides.{acted_only}
+use Rattle.lu_facts.proofs.Sides.{acted_only, first_at}
 use Rattle.lu_facts.proofs.OnNames.{IsPlain, told_so, op_is, told_as_so}
 use Rattle.lu_facts.proofs.Refused.{acted_answered}
-use Rattle.lu_facts.proofs.Known.{HeardBy, heard_by_story, heard_by_whole}
+use Rattle.lu_facts.proofs.Known.{HeardBy, heard_by_story}
 use Rattle.lu_facts.proofs.Times.{reached_on}
-use Rattle.lu_lawful.proofs.Turns.{upto_is, same_turn_self, other_node}
-use Rattle.lu_lawful.proofs.Story.{about_it, was_to, story_at, made_story}
-use Rattle.lu_lawful.proofs.Printed.{life_now, present_is, own_by, first_sent, open_is, far_good}
+use Rattle.lu_lawful.proofs.Turns.{upto_is, same_turn_self}
+use Rattle.lu_lawful.proofs.Story.{about_it, was_to}
+use Rattle.lu_lawful.proofs.Printed.{life_now, present_is, own_by, first_sent, open_is}
 use Rattle.lu_lawful.proofs.Lines.{OfPrinted, Keeps, holds_due}
 use Rattle.lu_lawful.proofs.Once.{asked_is, acted_sent}
 use Rattle.lu_lawful.proofs.Fine.{IsFine, deed_fine, so_fine, known_fine}
 use Rattle.lu_lawful.proofs.Flying.{Flown, flying, ask_flown, Distinct, flyers, keeps_flyers, objects_apart, no_more}
-use Rattle.lu_lawful.proofs.Facts.{AnswersAt, KnewAt, EndsAt, BadAt, SizesAt, FlushedAt, ReadAt, StatAt, TellsAt, AllTold}
 use Rattle.lu_lawful.proofs.ActsLaw.{one_turn, NoneLeft, none_counts, at_most, ActIn, act_in, Stands, acted_in}
 use Rattle.lu_lawful.proofs.Hearing.{just_heard}
-use Rattle.lu_lawful.proofs.Sized.{told_empty}
 use Rattle.lu_lawful.proofs.Handles.{is_bad_stage, begins_bad, meant_is}
 use Rattle.lu_lawful.proofs.BadCalls.{Due, nothing_due, due_before}
 use Rattle.lu_lawful.proofs.Notices.{notice_taken}
@@ -125,7 +124,8 @@ told_hears head (l ∷ past) who x g i = by l.at.node l.entry g.0 i (told_hears 
         by (inr (inr (inr (inr (inl sizes))))) own differs number = absurd (other differs sizes.of_turn)
         by (inr (inr (inr (inr (inr (inl flushed)))))) own differs number = absurd (other differs flushed.of_turn)
         by (inr (inr (inr (inr (inr (inr (inl read))))))) own differs number = absurd (other differs read.of_turn)
-        by (inr (inr (inr (inr (inr (inr (inr stat))))))) own differs number = absurd (other differs stat.of_turn)
+        by (inr (inr (inr (inr (inr (inr (inr (inl stat)))))))) own differs number = absurd (other differs stat.of_turn)
+        by (inr (inr (inr (inr (inr (inr (inr (inr wrote)))))))) own differs number = absurd (other differs wrote.of_turn)
 
     by : (node : Node) (e : Entry) → Allowed head past (turn l.at.stamp node) e → told_with (printed (line (turn l.at.stamp node) e ∷ past)) who x ≡ true → (told_with (printed past) who x ≡ true → Hears (only 0 past) who x)
         → Hears (only 0 (line (turn l.at.stamp node) e ∷ past)) who x
@@ -168,8 +168,8 @@ just_heard_by (l ∷ past) at c r j n = by l.at.node l.entry j (λ i. just_heard
     by node e j h = let k = h j in (k.0, heard_by_story 0 (line (turn l.at.stamp node) e) past c k.0 r k.1)
 
 -- what its life heard it heard as that life
-pub heard_story : (l : Line) (past : List Line) (who : Who) (f : Flight) (r : ReplyTo) → HeardAs (only 0 past) who f r → HeardAs (only 0 (l ∷ past)) who f r
-heard_story l past who f r h = cond_both (concerns 0 l.at.node l.entry) (l ∷ only 0 past) (only 0 past) (λ (P : List Line). HeardAs P who f r) (λ t. heard_as_more l (only 0 past) who f r h) (λ t. h)
+pub heard_story : (t : ℕ) (l : Line) (past : List Line) (who : Who) (f : Flight) (r : ReplyTo) → HeardAs (only t past) who f r → HeardAs (only t (l ∷ past)) who f r
+heard_story t l past who f r h = cond_both (concerns t l.at.node l.entry) (l ∷ only t past) (only t past) (λ (P : List Line). HeardAs P who f r) (λ o. heard_as_more l (only t past) who f r h) (λ o. h)
 
 -- in a target's story
 pub heard_as : (head : Head) (past : List Line) (c : ℕ) (f : Flight) (r : ReplyTo) → GrownOf head past → HeardBy past c f r → HeardAs past r.who f r
@@ -185,20 +185,28 @@ heard_as head (l ∷ past) c f r g h = by l.at.node l.entry g.0 h (heard_as head
     by (Client d) (Heard v x q) ok (inr h) ih = inr (ih h)
     by node e ok h ih = heard_as_more (line (turn l.at.stamp node) e) past r.who f r (ih h)
 
--- what stands of what was heard
-pub heard_stands : (out : Who → Bool) (lost : ℕ → ℕ → Bool) (past : List Line) (c : ℕ) (f : Flight) (r : ReplyTo) → HeardStand out lost past → HeardBy past c f r → out r.who ≡ false → ReplyStands lost r
-heard_stands out lost [] c f r s i o = absurd i
-heard_stands out lost (l ∷ past) c f r s i o = by l.at.node l.entry s i (λ s j. heard_stands out lost past c f r s j o)
+-- what stands of what was heard of a target
+pub heard_stands : (out : Who → Bool) (lost : ℕ → ℕ → Bool) (t : ℕ) (past : List Line) (c : ℕ) (f : Flight) (r : ReplyTo) → HeardStand out lost past → HeardBy (only t past) c f r → out r.who ≡ false → ReplyStands (lost t) r
+heard_stands out lost t [] c f r s i o = absurd i
+heard_stands out lost t (l ∷ past) c f r s i o = by l.at.node l.entry s i (λ s j. heard_stands out lost t past c f r s j o)
   where
-    by : (node : Node) (e : Entry) → HeardStand out lost (line (turn l.at.stamp node) e ∷ past) → HeardBy (line (turn l.at.stamp node) e ∷ past) c f r → (HeardStand out lost past → HeardBy past c f r → ReplyStands lost r) → ReplyStands lost r
-    by (Client d) (Heard v g q) s (inl e) h = subst (ReplyStands lost) e.2 (s.0 (ap (λ (w : ReplyTo). out w.who) e.2 ∙ o))
-    by (Client d) (Heard v g q) s (inr j) h = h s.1 j
-    by (Target u) (Heard v g q) s (inl e) h = absurd (cc (e.0))
-    by (Target u) (Heard v g q) s (inr j) h = h s.1 j
-    by _ _ s j h = h s j
+    by : (node : Node) (e : Entry) → HeardStand out lost (line (turn l.at.stamp node) e ∷ past) → HeardBy (only t (line (turn l.at.stamp node) e ∷ past)) c f r → (HeardStand out lost past → HeardBy (only t past) c f r → ReplyStands (lost t) r) → ReplyStands (lost t) r
+    by (Client d) (Heard v g q) s i h = of (nat_eq t v) refl i
+      where
+        of : (b : Bool) → nat_eq t v ≡ b → HeardBy (if b then line (turn l.at.stamp (Client d)) (Heard v g q) ∷ only t past else only t past) c f r → ReplyStands (lost t) r
+        of true e (inl j) = subst (λ (u : ℕ). ReplyStands (lost u) r) (sym (eqb-true t v e)) (subst (ReplyStands (lost v)) j.2 (s.0 (ap (λ (w : ReplyTo). out w.who) j.2 ∙ o)))
+        of true e (inr j) = h s.1 j
+        of false e j = h s.1 j
+    by (Target u) (Heard v g q) s i h = of (nat_eq t u) i
+      where
+        of : (b : Bool) → HeardBy (if b then line (turn l.at.stamp (Target u)) (Heard v g q) ∷ only t past else only t past) c f r → ReplyStands (lost t) r
+        of true (inl e) = absurd (cc (e.0))
+        of true (inr j) = h s.1 j
+        of false j = h s.1 j
+    by node e s i h = h s (cond_both (concerns t node e) (line (turn l.at.stamp node) e ∷ only t past) (only t past) (λ (P : List Line). HeardBy P c f r → HeardBy (only t past) c f r) (λ o j. j) (λ o j. j) i)
 
 -- a reply but for the committed number
-pub same_stands : (lost : ℕ → ℕ → Bool) (k r : ReplyTo) → record k { boot = r.boot; committed = r.committed } ≡ r → ReplyStands lost r → ReplyStands lost k
+pub same_stands : (lost : ℕ → Bool) (k r : ReplyTo) → record k { boot = r.boot; committed = r.committed } ≡ r → ReplyStands lost r → ReplyStands lost k
 same_stands lost k r e s = subst (ReplyStands lost) (sym e) s
 
 -- what is told at once
@@ -248,7 +256,7 @@ pub record Tells (past : List Line) (at : At) (c slot : ℕ) (named : At) (given
   pub is : record deed.reply { boot = reply.boot; committed = reply.committed } ≡ reply
   pub plain : IsPlain deed.reply.answer
 
-told_tells : (head : Head) (past : List Line) (stamp : Stamp) (c slot : ℕ) (named : At) (given : Answer) (work : Option Work) → Steps past (turn stamp (Client c)) → ToldOk past (turn stamp (Client c)) c slot named given work → Grown head past
+pub told_tells : (head : Head) (past : List Line) (stamp : Stamp) (c slot : ℕ) (named : At) (given : Answer) (work : Option Work) → Steps past (turn stamp (Client c)) → ToldOk past (turn stamp (Client c)) c slot named given work → Grown head past
     → Tells past (turn stamp (Client c)) c slot named given
 told_tells head past stamp c slot named given work steps ok g =
     let at = turn stamp (Client c) in
@@ -287,103 +295,6 @@ told_tells head past stamp c slot named given work steps ok g =
           (subst (λ (v : Who). told_with (printed past) v ok.reply.xid.0 ≡ true) (sym is.client) (subst (λ (v : ℕ). told_with (printed past) (life_at c past) v ≡ true) (sym x) t)));
     }
 
--- ---- every told line
-
-sizes : (head : Head) (past : List Line) (at : At) (c slot : ℕ) (named : At) (given : Answer) (work : Option Work) → Grown head past → SizesToldOk past at c slot named given work → SizesAt past at c slot named given
-sizes head past at c slot named given work g ok =
-    record {
-      running = ok.running;
-      call = ok.call;
-      handle = ok.handle;
-      glimpses = ok.glimpses;
-      good = far_good past at ok.running ok.sizes ok.so_far;
-      sizes = ok.sizes;
-      empty = told_empty head past at c slot ok.running ok.sizes g ok.call ok.so_far;
-      answer = ok.of_answer;
-      turn = ok.of_turn;
-      own = subst (λ (v : At). same_turn v at ≡ true) (sym ok.of_turn) (same_turn_self at);
-    }
-
-flushed : (past : List Line) (at : At) (c slot : ℕ) (named : At) (given : Answer) (work : Option Work) → FlushedOk past at c slot named given work → FlushedAt past at c slot named given
-flushed past at c slot named given work ok =
-    record {
-      running = ok.running;
-      call = ok.call;
-      handle = ok.handle;
-      flushes = ok.flushes;
-      good = ok.good;
-      begun = ok.begun;
-      answer = ok.of_answer;
-      turn = ok.of_turn;
-      own = subst (λ (v : At). same_turn v at ≡ true) (sym ok.of_turn) (same_turn_self at);
-    }
-
-was_read : (past : List Line) (at : At) (c slot : ℕ) (named : At) (given : Answer) (work : Option Work) → ReadToldOk past at c slot named given work → ReadAt past at c slot named given
-was_read past at c slot named given work ok =
-    record { running = ok.running; call = ok.call; read = ok.read; answer = ok.of_answer; turn = ok.of_turn; own = subst (λ (v : At). same_turn v at ≡ true) (sym ok.of_turn) (same_turn_self at) }
-
-was_stat : (past : List Line) (at : At) (c slot : ℕ) (named : At) (given : Answer) (work : Option Work) → StatToldOk past at c slot named given work → StatAt past at c slot named given
-was_stat past at c slot named given work ok =
-    record { running = ok.running; call = ok.call; pins = ok.pins; stat = ok.stat; answer = ok.of_answer; turn = ok.of_turn; own = subst (λ (v : At). same_turn v at ≡ true) (sym ok.of_turn) (same_turn_self at) }
-
-knew : (past : List Line) (at : At) (c slot : ℕ) (named : At) (given : Answer) (work : Option Work) → KnownOk past at c slot named given work → KnewAt past at c slot named given
-knew past at c slot named given work ok =
-    record { running = ok.running; call = ok.call; begun = ok.begun; known = ok.known; turn = ok.of_turn; own = subst (λ (v : At). same_turn v at ≡ true) (sym ok.of_turn) (same_turn_self at) }
-
-ends : (past : List Line) (at : At) (c slot : ℕ) (named : At) (given : Answer) (work : Option Work) → EndsOk past at c slot named given work → EndsAt past at c slot named given
-ends past at c slot named given work ok =
-    record { running = ok.running; call = ok.call; notice = ok.notice; answer = ok.of_answer; turn = ok.of_turn; own = subst (λ (v : At). same_turn v at ≡ true) (sym ok.of_turn) (same_turn_self at) }
-
-bad : (past : List Line) (at : At) (c slot : ℕ) (named : At) (given : Answer) (work : Option Work) → BadOk past at c slot named given work → BadAt past at c slot named given
-bad past at c slot named given work ok =
-    record {
-      running = ok.running;
-      call = ok.call;
-      bad = ok.bad;
-      begun = ok.begun;
-      answer = ok.of_answer;
-      turn = ok.of_turn;
-      own = subst (λ (v : At). same_turn v at ≡ true) (sym ok.of_turn) (same_turn_self at);
-    }
-
-pub all_told : (head : Head) (past : List Line) → Grown head past → AllTold past
-all_told head [] g = tt
-all_told head (l ∷ past) g = by l.at.node l.entry g.0 (all_told head past g.1)
-  where
-    answered : (c slot : ℕ) (named : At) (given : Answer) (work : Option Work) → Steps past (turn l.at.stamp (Client c)) → ToldOk past (turn l.at.stamp (Client c)) c slot named given work → AnswersAt past (turn l.at.stamp (Client c)) c named given
-    answered c slot named given work steps ok =
-        let t = told_tells head past l.at.stamp c slot named given work steps ok g.1 in
-        let n = story_at head past 0 t.deed g.1 t.acted in
-        record {
-          deed = t.deed;
-          acted = t.acted;
-          who = t.who;
-          turn = t.turn_is;
-          answer = t.answer;
-          heard = t.heard;
-          other = subst (λ (v : At). same_turn v (turn l.at.stamp (Client c)) ≡ false) t.turn_is (other_node t.deed.reply.at (turn l.at.stamp (Client c)) 0 c n refl);
-          flight = t.flight;
-          reply = t.reply;
-          hears = t.hears;
-          is = t.is;
-          plain = t.plain;
-        }
-
-    tells : (c slot : ℕ) (named : At) (given : Answer) (work : Option Work) → Steps past (turn l.at.stamp (Client c)) → EntryOk past (turn l.at.stamp (Client c)) (Client c) (Told slot named given work) → TellsAt past (turn l.at.stamp (Client c)) (Client c) slot named given
-    tells c slot named given work steps (inl ok) = inl (answered c slot named given work steps ok)
-    tells c slot named given work steps (inr (inl ok)) = inr (inl (knew past (turn l.at.stamp (Client c)) c slot named given work ok))
-    tells c slot named given work steps (inr (inr (inl ok))) = inr (inr (inl (ends past (turn l.at.stamp (Client c)) c slot named given work ok)))
-    tells c slot named given work steps (inr (inr (inr (inl ok)))) = inr (inr (inr (inl (bad past (turn l.at.stamp (Client c)) c slot named given work ok))))
-    tells c slot named given work steps (inr (inr (inr (inr (inl ok))))) = inr (inr (inr (inr (inl (sizes head past (turn l.at.stamp (Client c)) c slot named given work g.1 ok)))))
-    tells c slot named given work steps (inr (inr (inr (inr (inr (inl ok)))))) = inr (inr (inr (inr (inr (inl (flushed past (turn l.at.stamp (Client c)) c slot named given work ok))))))
-    tells c slot named given work steps (inr (inr (inr (inr (inr (inr (inl ok))))))) = inr (inr (inr (inr (inr (inr (inl (was_read past (turn l.at.stamp (Client c)) c slot named given work ok)))))))
-    tells c slot named given work steps (inr (inr (inr (inr (inr (inr (inr ok))))))) = inr (inr (inr (inr (inr (inr (inr (was_stat past (turn l.at.stamp (Client c)) c slot named given work ok)))))))
-
-    by : (node : Node) (e : Entry) → Allowed head past (turn l.at.stamp node) e → AllTold past → AllTold (line (turn l.at.stamp node) e ∷ past)
-    by (Client c) (Told slot named given work) k h = (tells c slot named given work k.steps k.ok, h)
-    by (Target t) (Told slot named given work) k h = absurd k.ok
-    by _ _ k h = h
-
 -- ---- calls
 
 not_local : (file : Option HandleFile) (x : Call) (o : Op) → operation_of file x ≡ Some o → is_local x ≡ false
@@ -396,6 +307,10 @@ own_no true b c p q r e = absurd (cc)
 own_no false true c p q r e = absurd (cc)
 own_no false false true p q r e = absurd (cc)
 own_no false false false p q r e = absurd (cc)
+
+-- what a read tells is neither a bad handle nor the end of a life
+read_fine : (st : Store) (w : Work) (offset count : ℕ) (told : Answer) → ReadTells st w offset count told → (is_bad_handle told ≡ false) × (is_end_of_life told ≡ false)
+read_fine st w offset count told k = ⊎_elim (λ q. (ap is_bad_handle q.2, ap is_end_of_life q.2)) (λ q. (ap is_bad_handle q.1, ap is_end_of_life q.1)) k.1
 
 moved_asked : (past : List Line) (d : Deed) (who : Who) (x : ℕ) (o : Op) → d.reply.who ≡ who → d.reply.xid.0 ≡ x → d.op ≡ o → asked (printed past) 0 d.reply.who d.reply.xid.0 ≡ Some d.op → asked (printed past) 0 who x ≡ Some o
 moved_asked past d who x o w y p a = subst (λ (v : Who). asked (printed past) 0 v x ≡ Some o) w (subst (λ v. asked (printed past) 0 d.reply.who v ≡ Some o) y (a ∙ ap (λ (v : Op). Some v) p))
@@ -417,27 +332,32 @@ module _ (head : Head) (out : Who → Bool) (lost : ℕ → ℕ → Bool) (whole
 
   -- no number that stands at the end was lost by a close, and a life that isn't out wasn't evicted
   abbrev pub Lasting : Type 0
-  Lasting = ((d : Deed) → Acted whole d → IsMade d → lost 0 d.reply.txn.0 ≡ false → StandsSoFar head.osts (only 0 whole) d) × ((who : Who) → out who ≡ false → Evicted (only 0 whole) who → ⊥)
+  Lasting =
+      ((t : ℕ) (d : Deed) → Acted (only t whole) d → IsMade d → lost t d.reply.txn.0 ≡ false → StandsSoFar head.osts (only t whole) d)
+      × ((who : Who) → out who ≡ false → (t : ℕ) → Evicted (only t whole) who → ⊥)
 
   -- beside an act that was heard stands no transaction of its request
   alone : (past : List Line) (c : ℕ) (f : Flight) (r : ReplyTo) (d : Deed) (named : At) → Grown head past → Grown head whole → Inside past → Lasting → HeardBy (only 0 past) c f r → Acted (only 0 past) d
       → r ≡ record d.reply { boot = r.boot; committed = r.committed } → out r.who ≡ false → d.reply.at ≡ named
       → acted (printed past) named d.reply.who d.reply.xid.0 ≡ true → standing_count lost 0 d.reply.who d.reply.xid.0 (printed whole) ≡ 0
-  alone past c f r d named g w i lasting hears did is stays turn acts = none_counts lost d.reply.who d.reply.xid.0 head whole w none
+  alone past c f r d named g w i lasting hears did is stays turn acts = none_counts lost 0 d.reply.who d.reply.xid.0 head whole w none
     where
       a : Acted past d
       a = acted_whole 0 past d did
 
+      first : d.reply.at.node ≡ Target 0
+      first = first_at head past d g did
+
       -- in the whole trace, by the metadata target
       story : Acted (only 0 whole) d
-      story = acted_only head whole d 0 w (i.0 d a) (story_at head past 0 d g did)
+      story = acted_only head whole d 0 w (i.0 d a) first
 
       act : ActIn past named d.reply.who d.reply.xid.0
       act = act_in head past named d.reply.who d.reply.xid.0 g acts
 
       -- so it is that act
       zero : d.reply.txn.0 ≡ 0
-      zero = ap (λ (v : Deed). v.reply.txn.0) (sym (one_turn head past act.0 d g act.1 a (act.3 ∙ sym turn) act.4 act.5)) ∙ act.2
+      zero = ap (λ (v : Deed). v.reply.txn.0) (sym (one_turn head past 0 act.0 d g (ap (λ (v : At). v.node) (act.3 ∙ sym turn) ∙ first) act.1 a (act.3 ∙ sym turn) act.4 act.5)) ∙ act.2
 
       whose : r.who ≡ d.reply.who
       whose = ap (λ (v : ReplyTo). v.who) is
@@ -451,26 +371,26 @@ module _ (head : Head) (out : Who → Bool) (lost : ℕ → ℕ → Bool) (whole
       has : HasSlot head.clients (only 0 whole) r.who
       has = ⊎_elim
           (λ (h : HasSlot head.clients (only 0 whole) r.who). h)
-          (λ (e : Evicted (only 0 whole) r.who). absurd (lasting.1 r.who stays e))
+          (λ (e : Evicted (only 0 whole) r.who). absurd (lasting.1 r.who stays 0 e))
           (subst (λ (v : Who). Had head.clients (only 0 whole) v) (sym whose) (inside.lives.acted d story))
 
       xid : ℕ → Xid
       xid n = record { 0 = n }
 
-      none : NoneLeft lost d.reply.who d.reply.xid.0 whole
+      none : NoneLeft lost 0 d.reply.who d.reply.xid.0 whole
       none e b made left who x =
-          let same : e ≡ d = inside.done.alone r.who f r d e heard has story is (made_story head whole e w b made) made (lasting.0 e b made left) (who ∙ sym whose) (ap xid x) in
+          let same : e ≡ d = inside.done.alone r.who f r d e heard has story is b made (lasting.0 0 e b made left) (who ∙ sym whose) (ap xid x) in
           let n : e.reply.txn.0 ≡ 0 = ap (λ (v : Deed). v.reply.txn.0) same ∙ zero in
           omega (arith, n, made)
 
   in_time : (past : List Line) (at : At) (c slot : ℕ) (named : At) (given : Answer) → Grown head past → Grown head whole → Inside past → Lasting
-      → (t : Tells past at c slot named given) → out t.reply.who ≡ false → ReplyStands lost t.deed.reply → (b : calls.Begun) → b.at ≡ t.begun.at → operation b ≡ Some t.deed.op → ActsInTime lost (printed whole) (printed past) at (life_at c past) b named
+      → (t : Tells past at c slot named given) → out t.reply.who ≡ false → ReplyStands (lost 0) t.deed.reply → (b : calls.Begun) → b.at ≡ t.begun.at → operation b ≡ Some t.deed.op → ActsInTime lost (printed whole) (printed past) at (life_at c past) b named
   in_time past at c slot named given g w i lasting t stays s b at_is op_is =
       let d = t.deed in
       let x = d.reply.xid.0 in
       let a = acted_whole 0 past d t.acted in
-      let first = story_at head past 0 d g t.acted in
-      let is = asked_is head past 0 d g (acted_sent head past 0 d g first a) in
+      let first = first_at head past d g t.acted in
+      let is = asked_is head past 0 d g (acted_sent head past 0 d g t.acted) in
       let there = acted_in head lost past g d first a s in
       record {
         after = subst (λ (v : At). UpTo v named) (sym at_is) (upto_is t.begun.at named t.after);
@@ -502,7 +422,7 @@ module _ (head : Head) (out : Who → Bool) (lost : ℕ → ℕ → Bool) (whole
         own = λ e. absurd (own_no (is_local b.call) (is_bad_handle given) (is_end_of_life given) (not_local t.begun.file b.call t.deed.op asks_it) fine.0 fine.1 e);
         acts = λ e. subst (λ (v : Who). ActsInTime lost (printed whole) (printed past) at v b named) (sym (present_is head c past g))
             (in_time past at c slot named given g w i lasting t (ap out (t.whose ∙ sym (present_is head c past g)) ∙ e)
-            (same_stands lost t.deed.reply t.reply t.is (heard_stands out lost past c t.flight t.reply s (heard_by_whole 0 past c t.flight t.reply t.hears)
+            (same_stands (lost 0) t.deed.reply t.reply t.is (heard_stands out lost 0 past c t.flight t.reply s t.hears
             (ap out (t.whose ∙ sym (present_is head c past g)) ∙ e))) b o.2 (sym o.4 ∙ t.becomes));
       })
 
@@ -512,18 +432,18 @@ module _ (head : Head) (out : Who → Bool) (lost : ℕ → ℕ → Bool) (whole
   knew_law past stamp c slot named given work ok g =
       let at = turn stamp (Client c) in
       let o = open_is head c slot past ok.running g ok.call in
-      let k = knew past at c slot named given work ok in
+      let own : same_turn named at ≡ true = subst (λ (v : At). same_turn v at ≡ true) (sym ok.of_turn) (same_turn_self at) in
       let fine = known_fine head past c ok.running.call given g ok.known in
       let now : UpTo at at = upto_is at at (inl refl) in
       subst (λ (v : Option calls.Begun). ToldOn out lost (printed whole) (printed past) at (who_is c (printed past)) v named given) (sym o.1)
       (record {
         handle = λ e. let f = fine.0 in absurd (cc);
         evicted = λ e. let f = fine.1 in absurd (cc);
-        own = λ e. k.own;
+        own = λ e. own;
         acts = λ e. record {
           after = subst (λ (v : At). UpTo v named) (sym (o.2 ∙ ok.begun)) (subst (λ (v : At). UpTo at v) (sym ok.of_turn) now);
           before = subst (λ (v : At). UpTo v at) (sym ok.of_turn) now;
-          acts = λ other. let own = k.own in absurd (cc);
+          acts = λ other. absurd (cc);
         };
       })
 
@@ -599,8 +519,9 @@ module _ (head : Head) (out : Who → Bool) (lost : ℕ → ℕ → Bool) (whole
       by (inr (inr (inr (inl ok)))) = bad_law past stamp c slot named given work ok g
       by (inr (inr (inr (inr (inl ok))))) = now_law past stamp c slot named given ok.running work k.steps ok.call ok.of_turn (ap is_bad_handle ok.of_answer) (ap is_end_of_life ok.of_answer) g
       by (inr (inr (inr (inr (inr (inl ok)))))) = now_law past stamp c slot named given ok.running work k.steps ok.call ok.of_turn (ap is_bad_handle ok.of_answer) (ap is_end_of_life ok.of_answer) g
-      by (inr (inr (inr (inr (inr (inr (inl ok))))))) = now_law past stamp c slot named given ok.running work k.steps ok.call ok.of_turn (ap is_bad_handle ok.of_answer) (ap is_end_of_life ok.of_answer) g
-      by (inr (inr (inr (inr (inr (inr (inr ok))))))) = now_law past stamp c slot named given ok.running work k.steps ok.call ok.of_turn (ap is_bad_handle ok.of_answer) (ap is_end_of_life ok.of_answer) g
+      by (inr (inr (inr (inr (inr (inr (inl ok))))))) = let fine = read_fine (store_at c past) ok.done ok.does.read.offset ok.does.read.count given ok.tells in now_law past stamp c slot named given ok.running work k.steps ok.call ok.of_turn fine.0 fine.1 g
+      by (inr (inr (inr (inr (inr (inr (inr (inl ok)))))))) = now_law past stamp c slot named given ok.running work k.steps ok.call ok.of_turn (ap is_bad_handle ok.of_answer) (ap is_end_of_life ok.of_answer) g
+      by (inr (inr (inr (inr (inr (inr (inr (inr ok)))))))) = now_law past stamp c slot named given ok.running work k.steps ok.call ok.of_turn (ap is_bad_handle ok.of_answer) (ap is_end_of_life ok.of_answer) g
 
 -- ---- the law at a request's message
 
@@ -674,7 +595,7 @@ sends_law head past stamp c t r is k g =
 
 module _ (head : Head) (is : IsHead head) (out : Who → Bool) (lost : ℕ → ℕ → Bool) (whole : List Line) (all_grown : Grown head whole) (lasting : Lasting head out lost whole) where
   inside_before : (past : List Line) (l : Line) → Inside head out lost whole (l ∷ past) → Inside head out lost whole past
-  inside_before past l i = (λ d a. i.0 d (acted_more l.at l.entry past d a), λ who f r h. i.1 who f r (heard_story l past who f r h))
+  inside_before past l i = (λ d a. i.0 d (acted_more l.at l.entry past d a), λ who f r h. i.1 who f r (heard_story 0 l past who f r h))
 
   heard_before : (past : List Line) (l : Line) → HeardStand out lost (l ∷ past) → HeardStand out lost past
   heard_before past l s = by l.entry s
@@ -701,6 +622,8 @@ module _ (head : Head) (is : IsHead head) (out : Who → Bool) (lost : ℕ → �
       by (Target t) (Told slot named given work) k s due = absurd k.ok
       by (Client c) (Send (Target t) (message.Request r)) k s due = sends_law head past l.at.stamp c t r is k g
       by (Client c) (Send (Target t) (message.Cancel who boot cookie)) k s due = tt
+      by (Client c) (Send (Target t) (message.Where who boot cookie)) k s due = tt
+      by (Client c) (Send (Target t) (message.Size m)) k s due = tt
       by (Client c) (Send (Target t) (message.Join who boot)) k s due = tt
       by (Client c) (Send (Target t) (message.Replay r)) k s due = tt
       by (Client c) (Send (Target t) (message.Lock r)) k s due = tt
@@ -709,7 +632,7 @@ module _ (head : Head) (is : IsHead head) (out : Who → Bool) (lost : ℕ → �
       by (Client c) (Send (Client d) m) k s due = absurd k.ok
       by (Target t) (Send (Client c) m) k s due = tt
       by (Target t) (Send (Target u) m) k s due = absurd k.ok
-      by (Target t) (Made d) k s due = λ z. subst (λ v. standing_count lost v d.reply.who d.reply.xid.0 (printed whole) ≤ 1) (sym k.ok) (at_most lost d.reply.who d.reply.xid.0 head whole all_grown lasting.0)
+      by (Target t) (Made d) k s due = λ z. at_most lost t d.reply.who d.reply.xid.0 head whole all_grown (lasting.0 t)
       by (Client c) (Made d) k s due = absurd k.ok
       by _ _ k s due = tt
 

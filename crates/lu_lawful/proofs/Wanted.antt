@@ -1,10 +1,10 @@
 -- The locks that an act grants are those that its request asks for: over the contents at the act, one on each inode of its path, with
--- the bits of its row. And an object storage target grants the one that the request of this turn asks for, grown to the whole object.
+-- the bits of its row. And an object storage target grants the one that the request of this turn asks for, grown beside the others.
 use Rattle.std.proofs.Common.{◌≤◌, ◌≡◌, ℕ, zero, suc, ◌+◌, ◌*◌, ◌<◌, Bool, true, false, List, [], ◌∷◌, ◌++◌, ◌⊎◌, inl, inr, ⊎_elim, Option, Some, None, refl, sym, subst, ap, ◌∙◌, arith}
-use Rattle.std.specs.Prelude.{nat_eq, not, ◌&&◌, if◌then◌else◌, map, find}
-use Rattle.std.specs.List.{filter_map}
+use Rattle.std.specs.Prelude.{nat_eq, ◌&&◌, if◌then◌else◌, map, find}
 use Rattle.std.proofs.lemmas.Bool.Decides.{nat_tests}
 use Rattle.lu_base.specs.declared.ids.At.{At}
+use Rattle.lu_base.specs.declared.ids.Cookie.{Cookie}
 use Rattle.lu_base.specs.declared.ids.Fid.{Fid}
 use Rattle.lu_base.specs.declared.ids.Node.{Node}
 use Rattle.lu_base.specs.declared.ids.Node.TheVariants.{Client, Target}
@@ -18,8 +18,9 @@ use Rattle.lu_base.specs.declared.locks.Mode.{Mode}
 use Rattle.lu_base.specs.declared.locks.Mode.TheVariants.{PR}
 use Rattle.lu_base.specs.declared.locks.Policy.{Policy}
 use Rattle.lu_base.specs.declared.locks.Policy.TheVariants.{Bits, Range}
-use Rattle.lu_lock.specs.Growth.{extent_of, granted_ask, grown_policy, opposing}
-use Rattle.lu_lock.specs.Modes.{compatible}
+use Rattle.lu_base.specs.declared.locks.Resource.{Resource}
+use Rattle.lu_lock.specs.Growth.{granted_ask, grown_policy, opposing}
+use Rattle.lu_lock.specs.Overlap.{IsOrdered}
 use Rattle.lu_msg.specs.declared.messages.Message.TheVariants as message
 use Rattle.lu_msg.specs.declared.messages.Request.{Request as RequestOf}
 use Rattle.lu_msg.specs.declared.operations.Op.{Op}
@@ -31,11 +32,12 @@ use Rattle.lu_machine.specs.Footprint.{Operation, empty, after, forget, grants}
 use Rattle.lu_machine.specs.Removal.{contents}
 use Rattle.lu_machine.proofs.Made.{Named, named_empty, named_wide}
 use Rattle.lu_words.specs.Carried.{Deed}
-use Rattle.lu_words.specs.Words.{Entry, Act, Txn as Made, Grant, Enters, Line, line}
+use Rattle.lu_words.specs.Words.{Entry, Act, Txn as Made, Grant, Wait, Answers as Responds, Enters, Line, line}
 use Rattle.lu_words.specs.Concerns.{only}
 use Rattle.lu_words.specs.Printed.{printed}
 use Rattle.lu_target_rows.specs.Names.{locks_from}
-use Rattle.lu_covered.specs.Deeds.{whole}
+use Rattle.lu_target_rows.specs.Replies.{asks_of, locks_on}
+use Rattle.lu_covered.specs.Deeds.{lock_asked, in_the_way}
 use Rattle.lu_covered.specs.Makes.{Path}
 use Rattle.lu_covered.specs.TargetStates.{Server, none, tree_at, server_of}
 use Rattle.lu_covered.specs.Heads.{Head}
@@ -45,14 +47,15 @@ use Rattle.lu_laws.specs.Words.Sends.{Sending, taken}
 use Rattle.lu_laws.specs.Words.Asked.{Acting, acting, wanted, wanted_lock, wanted_by, enqueued_by, enqueued, requested, is_for}
 use Rattle.lu_guards.proofs.Guards.{In, Did, EntersFor, EntryOk}
 use Rattle.lu_guards.proofs.StoryGuards.{RangeOk}
-use Rattle.lu_guards.proofs.Acts.{acts_names, acts_sized, sized_bare}
+use Rattle.lu_guards.proofs.ClientStoryGuards.{AsksInOrder}
+use Rattle.lu_guards.proofs.Acts.{acts_names, acts_sized, sized_bare, wait_bare, responded, made}
 use Rattle.lu_guards.proofs.Grown.{Allowed, Grown}
-use Rattle.lu_guards.proofs.Lists.{self, filter_none, life_self}
+use Rattle.lu_guards.proofs.Lists.{self, life_self}
 use Rattle.lu_guards.proofs.Parts.{server_is, boot_is, count_is, tree_is as tree_there}
-use Rattle.lu_guards.proofs.TargetObjects.{ranged}
-use Rattle.lu_facts.proofs.Groups.{turn, items_of, HoldsAt}
+use Rattle.lu_facts.proofs.Groups.{turn, Acted, FlewFor, items_of, HoldsAt}
 use Rattle.lu_facts.proofs.DoneGrows.{did_acted}
 use Rattle.lu_facts.proofs.Asked.{acted_on_names}
+use Rattle.lu_facts.proofs.LockLists.{IsBitsKind, from_bits}
 use Rattle.lu_facts.proofs.Inodes.{Kinds, kinds_empty, kinds_after, EachOnce, grants_once}
 use Rattle.lu_facts.proofs.All.{holds}
 use Rattle.lu_facts.proofs.Finds.{numbers_at}
@@ -61,12 +64,10 @@ use Rattle.lu_facts.proofs.OnNames.{IsOnNames}
 use Rattle.lu_facts.proofs.OverItems.{over_now}
 use Rattle.lu_facts.proofs.Named.{named_after}
 use Rattle.lu_lawful.proofs.Turns.{same_turn_self}
-use Rattle.lu_lawful.proofs.Story.{about_it}
-use Rattle.lu_lawful.proofs.Sized.{gave_only}
 use Rattle.lu_lawful.proofs.Facts.{AskedAt, AllAsked}
 use Rattle.lu_lawful.proofs.Contents.{contents_alike}
 use Rattle.lu_lawful.proofs.Once.{all_asked, asked_is, acted_sent}
-use Rattle.lu_lawful.proofs.Given.{range_turn}
+use Rattle.lu_lawful.proofs.Given.{ranged, gave_only}
 use Rattle.lu_lawful.proofs.Notices.{on_way, takes_it}
 
 -- ---- the metadata target's tree
@@ -128,10 +129,10 @@ asks who o = record { number = record { 0 = 0 }; who = who; op = o }
 pub record IsAct (head : Head) (past : List Line) (d : Deed) : Type 0 where
   pub cookie : ℕ
   pub acting : acting d.reply.at (printed past) ≡ Some (record { who = d.reply.who; xid = d.reply.xid.0 })
-  pub asked : AskedAt past d
+  pub asked : AskedAt 0 past d
   pub locks : d.reply.locks ≡ locks_from cookie d.reply.who (grants head.osts (tree_at head.osts 0 past) (asks d.reply.who d.op))
 
-act_here : (head : Head) (past : List Line) (stamp : Stamp) (d : Deed) → Allowed head past (turn stamp (Target 0)) (Act d) → Grown head past → AskedAt past d → IsAct head (line (turn stamp (Target 0)) (Act d) ∷ past) d
+act_here : (head : Head) (past : List Line) (stamp : Stamp) (d : Deed) → Allowed head past (turn stamp (Target 0)) (Act d) → Grown head past → AskedAt 0 past d → IsAct head (line (turn stamp (Target 0)) (Act d) ∷ past) d
 act_here head past stamp d a g asked =
     let ok = acts_names head.osts (only 0 past) (turn stamp (Target 0)) d (a.of 0 refl) in
     let at : d.reply.at ≡ turn stamp (Target 0) = ap (λ (v : Deed). v.reply.at) ok.is in
@@ -155,14 +156,18 @@ did_is head (l ∷ past) d g asked i = by l.at.node l.entry g.0 asked i (did_is 
     by : (node : Node) (e : Entry) → Allowed head past (turn l.at.stamp node) e → AllAsked (line (turn l.at.stamp node) e ∷ past) → Did (line (turn l.at.stamp node) e ∷ past) d
         → (AllAsked past → Did past d → (d.reply.locks ≡ []) ⊎ IsAct head past d) → (d.reply.locks ≡ []) ⊎ IsAct head (line (turn l.at.stamp node) e ∷ past) d
     by (Client c) (Act f) a asked i h = absurd a.ok
-    by (Target zero) (Act f) a asked i h = inr (subst (λ (v : Deed). IsAct head (line (turn l.at.stamp (Target 0)) (Act f) ∷ past) v) i (act_here head past l.at.stamp f a g.1 (asked.0 refl)))
+    by (Target zero) (Act f) a asked i h = inr (subst (λ (v : Deed). IsAct head (line (turn l.at.stamp (Target 0)) (Act f) ∷ past) v) i (act_here head past l.at.stamp f a g.1 (asked.0 0 refl)))
     by (Target (suc t)) (Act f) a asked i h =
         inl (ap (λ (v : Deed). v.reply.locks) (sym i) ∙ sized_bare head.osts (only (suc t) past) (turn l.at.stamp (Target (suc t))) f
         (acts_sized head.osts (only (suc t) past) (turn l.at.stamp (Target (suc t))) (suc t) f (omega arith) (a.of (suc t) (self (suc t)))))
     by (Client c) (Made f) a asked i h = absurd a.ok
-    by (Target t) (Made f) a asked i h = inl (ap (λ (v : Deed). v.reply.locks) (sym i) ∙ ap (λ (v : Deed). v.reply.locks) (a.of 0 (about_it t a.ok)).is)
+    by (Target t) (Made f) a asked i h = inl (ap (λ (v : Deed). v.reply.locks) (sym i) ∙ (made head.osts (only t past) (turn l.at.stamp (Target t)) t f (a.of t (self t))).bare)
+    by (Client c) (Wait lock f) a asked i h = absurd a.ok
+    by (Target t) (Wait lock f) a asked i h = inl (ap (λ (v : Deed). v.reply.locks) (sym i) ∙ wait_bare head.osts (only t past) (turn l.at.stamp (Target t)) lock f (a.of t (self t)).1)
+    by (Client c) (Responds f) a asked i h = absurd a.ok
+    by (Target t) (Responds f) a asked i h = inl (ap (λ (v : Deed). v.reply.locks) (sym i) ∙ ap (λ (v : Deed). v.reply.locks) (responded head.osts (only t past) (turn l.at.stamp (Target t)) t f (a.of t (self t)).1).is)
     by (Client c) (Grant lock asks) a asked i h = absurd a.ok
-    by (Target t) (Grant lock None) a asked i h = absurd a.ok
+    by (Target t) (Grant lock None) a asked i h = absurd (cc)
     by (Target t) (Grant lock (Some f)) a asked i h = shown a.ok
       where
         same : f ≡ d
@@ -208,7 +213,7 @@ grown_same a bits granted waiting e = ap (λ (p : Policy). record { who = a.who;
 -- ---- what was just done asked for each lock that it grants
 
 pub asked_as : (head : Head) (past : List Line) (at : At) (d : Deed) (l : Lock) → Grown head past → Did past d → d.reply.at ≡ at → In l d.reply.locks
-    → (find (is_for l) (requested head.osts 0 (printed past) at l.cookie) ≡ Some l) × ((granted waiting : List Ask) → l.ask ≡ granted_ask l.ask granted waiting)
+    → (find (is_for l) (requested head.osts 0 (printed past) at l.cookie) ≡ Some l) × ((granted waiting : List Ask) → l.ask ≡ granted_ask l.ask granted waiting) × IsBitsKind l.ask.mode l.ask.policy
 asked_as head past at d l g did turn i = ⊎_elim
     (λ (q : d.reply.locks ≡ []). absurd (subst (λ (ls : List Lock). In l ls) q i))
     (λ (q : IsAct head past d).
@@ -222,6 +227,7 @@ asked_as head past at d l g did turn i = ⊎_elim
           ∙ ap (λ (ws : List Want). find (is_for l) (map (wanted_lock l.cookie d.reply.who) ws)) (contents_alike head past g (all_asked head past g) (asks d.reply.who d.op)).grants
           ∙ found d.reply.who q.cookie ws l once j,
       λ granted waiting. grown_same l.ask r.0.bits granted waiting (ap (λ (v : Lock). v.ask.policy) r.2),
+      from_bits q.cookie d.reply.who ws l j,
     ))
     (did_is head past d g (all_asked head past g) did)
 
@@ -241,23 +247,30 @@ taken_for head (l ∷ past) at d g i = by l.at.node l.entry g.0 i
         (a.ok.0, r, i.1, i.2, (took.0, subst (λ (v : At). taken (printed past) v ≡ on_way a.ok.0 v.node (message.Request r) ∷ took.0) i.0 took.1))
     by _ e a i = absurd i
 
--- no lock for reading is in the way of another one
-none_opposing : (asks : List Ask) → ((a : Ask) → In a asks → a.mode ≡ PR) → opposing PR asks ≡ []
-none_opposing asks readers =
-    ap (λ (ls : List Ask). filter_map (λ (lock : Ask). extent_of lock.policy) ls)
-    (filter_none (λ (lock : Ask). not (compatible PR lock.mode)) asks (λ a i. ap (λ (m : Mode). not (compatible PR m)) (readers a i)))
+-- it asks for this lock, under that cookie
+abbrev pub lock_as : Cookie → Who → Resource → Mode → Extent → Lock
+lock_as cookie who resource mode extent = record { cookie = cookie; resource = resource; ask = record { who = who; mode = mode; policy = Range extent } }
 
--- so it grows to the whole object
-grown_whole : (who : Who) (extent : Extent) (granted : List Ask) → ((a : Ask) → In a granted → a.mode ≡ PR)
-    → record { who = who; mode = PR; policy = Range whole } ≡ granted_ask (record { who = who; mode = PR; policy = Range extent }) granted []
-grown_whole who extent granted readers = ap (λ (others : List Extent). record { who = who; mode = PR; policy = grown_policy (Range extent) others [] }) (sym (none_opposing granted readers))
+pub enqueued_now : (head : Head) (past : List Line) (at : At) (t : ℕ) (d : Deed) (cookie : Cookie) (resource : Resource) (mode : Mode) (extent : Extent) → Grown head past → AskedAt t past d → EntersFor past at d → d.op ≡ op.Enqueue resource mode extent
+    → (rest : List Lock) × (enqueued t (printed past) cookie (taken (printed past) at) ≡ lock_as cookie d.reply.who resource mode extent ∷ rest)
+enqueued_now head past at t d cookie resource mode extent g told enters of_op =
+    let took = taken_for head past at d g enters in
+    let rest = enqueued t (printed past) cookie took.4.0 in (
+      rest,
+      ap (λ (ss : List Sending). enqueued t (printed past) cookie ss) took.4.1
+          ∙ ap (λ (w : Who). enqueued_by cookie w (asked (printed past) t w took.1.xid.0) ++ rest) took.2
+          ∙ ap (λ (x : Xid). enqueued_by cookie d.reply.who (asked (printed past) t d.reply.who x.0) ++ rest) took.3
+          ∙ ap (λ (o : Option Op). enqueued_by cookie d.reply.who o ++ rest) (told ∙ ap (λ (o : Op). Some o) of_op),
+    )
 
--- the lock as it was asked for
+-- the lock as it was asked for, which grows beside those that are granted there and those that wait
 pub record AskedFor (osts : ℕ) (past : List Line) (at : At) (t : ℕ) (lock : Lock) : Type 0 where
   pub asked : Lock
   pub found : find (is_for lock) (requested osts t (printed past) at lock.cookie) ≡ Some asked
   pub resource : lock.resource ≡ asked.resource
-  pub grown : (granted : List Ask) → ((a : Ask) → In a granted → a.mode ≡ PR) → lock.ask ≡ granted_ask asked.ask granted []
+  pub grown : lock.ask ≡ granted_ask asked.ask (asks_of (locks_on lock.resource (server_of osts (only t past)).granted)) (asks_of (locks_on lock.resource (server_of osts (only t past)).queued))
+  pub ordered : IsOrdered asked.ask.policy
+  pub free : in_the_way (server_of osts (only t past)) lock.resource (locks_on lock.resource (server_of osts (only t past)).queued) asked.ask ≡ false
 
 pub asked_object : (head : Head) (past : List Line) (stamp : Stamp) (t : ℕ) (lock : Lock) (d : Deed)
     → Allowed head past (turn stamp (Target t)) (Grant lock (Some d)) → Grown head past → 0 < t → EntersFor past (turn stamp (Target t)) d → AskedFor head.osts past (turn stamp (Target t)) t lock
@@ -265,10 +278,15 @@ asked_object head past stamp zero lock d a g high enters = absurd (omega (arith,
 asked_object head past stamp (suc u) lock d a g high enters =
     record {
       asked = want;
-      found = subst (λ (ls : List Lock). find (is_for lock) ls ≡ Some want) (sym enqueues) (rw fits refl);
-      resource = ap (λ (l : Lock). l.resource) ok.of_lock;
-      grown = λ granted readers.
-          ap (λ (l : Lock). l.ask) ok.of_lock ∙ grown_whole ok.request.who ok.extent granted readers ∙ ap (λ (w : Who). granted_ask (record { who = w; mode = PR; policy = Range ok.extent }) granted []) (sym whose);
+      found = subst (λ (ls : List Lock). find (is_for lock) ls ≡ Some want) (sym taken_up.1) (rw fits refl);
+      resource = place;
+      grown =
+          ap (λ (l : Lock). l.ask) ok.of_lock
+          ∙ ap (λ (r : Resource). granted_ask one.ask (asks_of (locks_on ok.resource v.granted)) (asks_of (locks_on r v.queued))) (sym place)
+          ∙ ap (λ (r : Resource). granted_ask one.ask (asks_of (locks_on r v.granted)) (asks_of (locks_on lock.resource v.queued))) (sym place)
+          ∙ ap (λ (l : Lock). granted_ask l.ask (asks_of (locks_on lock.resource v.granted)) (asks_of (locks_on lock.resource v.queued))) (sym same);
+      ordered = (subst (λ (o : Op). AsksInOrder o) (flew.3 ∙ op_is) (((holds head new (a, g)).at t).ranges.flew d.reply.who flew.0 flew.1)).0;
+      free = subst (λ (r : Resource). in_the_way v r (locks_on r v.queued) want.ask ≡ false) (sym place) (subst (λ (l : Lock). in_the_way v ok.resource (locks_on ok.resource v.queued) l.ask ≡ false) (sym same) ok.free);
     }
   where
     t : ℕ
@@ -277,6 +295,9 @@ asked_object head past stamp (suc u) lock d a g high enters =
     at : At
     at = turn stamp (Target t)
 
+    v : Server
+    v = server_of head.osts (only t past)
+
     new : List Line
     new = line at (Grant lock (Some d)) ∷ past
 
@@ -284,28 +305,37 @@ asked_object head past stamp (suc u) lock d a g high enters =
     ok = ranged head.osts (only t past) at t lock d high (a.of t (self t))
 
     whose : d.reply.who ≡ ok.request.who
-    whose = ap (λ (v : Deed). v.reply.who) ok.is
+    whose = ap (λ (e : Deed). e.reply.who) ok.is
+
+    place : lock.resource ≡ ok.resource
+    place = ap (λ (l : Lock). l.resource) ok.of_lock
+
+    -- as the guards have it, and as it is printed
+    one : Lock
+    one = lock_asked v ok.request ok.resource ok.mode ok.extent
 
     want : Lock
-    want = record { cookie = lock.cookie; resource = ok.resource; ask = record { who = d.reply.who; mode = PR; policy = Range ok.extent } }
+    want = lock_as lock.cookie d.reply.who ok.resource ok.mode ok.extent
 
-    told : asked (printed past) t d.reply.who d.reply.xid.0 ≡ Some (op.Enqueue ok.resource PR ok.extent)
-    told =
-        asked_is head new t d (a, g) (acted_sent head new t d (a, g) (ap (λ (v : At). v.node) (range_turn head.osts (only t past) at lock d ok)) (inl refl))
-        ∙ ap (λ (o : Op). Some o) (ap (λ (v : Deed). v.op) ok.is ∙ ok.of_op)
+    same : want ≡ one
+    same =
+        ap (λ (c : Cookie). lock_as c d.reply.who ok.resource ok.mode ok.extent) (ap (λ (l : Lock). l.cookie) ok.of_lock)
+        ∙ ap (λ (w : Who). lock_as one.cookie w ok.resource ok.mode ok.extent) whose
 
-    took : (from : Node) × (r : RequestOf) × (r.who ≡ d.reply.who) × (r.xid ≡ d.reply.xid) × ((rest : List Sending) × (taken (printed past) at ≡ on_way from at.node (message.Request r) ∷ rest))
-    took = taken_for head past at d g enters
+    op_is : d.op ≡ op.Enqueue ok.resource ok.mode ok.extent
+    op_is = ap (λ (e : Deed). e.op) ok.is ∙ ok.of_op
 
-    rest : List Lock
-    rest = enqueued t (printed past) lock.cookie took.4.0
+    acted : Acted (only t new) d
+    acted = subst (λ (b : Bool). Acted (if b then line at (Grant lock (Some d)) ∷ only t past else only t past) d) (sym (self t)) (inl refl)
 
-    enqueues : requested head.osts t (printed past) at lock.cookie ≡ want ∷ rest
-    enqueues =
-        ap (λ (ss : List Sending). enqueued t (printed past) lock.cookie ss) took.4.1
-        ∙ ap (λ (w : Who). enqueued_by lock.cookie w (asked (printed past) t w took.1.xid.0) ++ rest) took.2
-        ∙ ap (λ (x : Xid). enqueued_by lock.cookie d.reply.who (asked (printed past) t d.reply.who x.0) ++ rest) took.3
-        ∙ ap (λ (o : Option Op). enqueued_by lock.cookie d.reply.who o ++ rest) told
+    flew : FlewFor (only t new) d
+    flew = ((holds head new (a, g)).at t).done.flew d acted
+
+    told : AskedAt t past d
+    told = asked_is head new t d (a, g) (acted_sent head new t d (a, g) acted)
+
+    taken_up : (rest : List Lock) × (enqueued t (printed past) lock.cookie (taken (printed past) at) ≡ want ∷ rest)
+    taken_up = enqueued_now head past at t d lock.cookie ok.resource ok.mode ok.extent g told enters op_is
 
     fits : is_for lock want ≡ true
     fits =

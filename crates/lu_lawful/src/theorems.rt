@@ -1,11 +1,6 @@
 //! What every covered run of the whole table keeps. Each function does nothing: its contract is a theorem over the
 //! definitions of the rows and of the laws.
 
-ghost use Rattle.std.specs.Prelude.{List};
-ghost use Rattle.lu_words.specs.Printed.{printed};
-ghost use Rattle.lu_table.specs.Heads.{Head, IsHead};
-ghost use Rattle.lu_table.specs.Runs.{Turn, lines_of, IsRun};
-ghost use Rattle.lu_covered.specs.Covered.{AllCovered};
 ghost use Rattle.lu_laws.specs.Holds.{Holds};
 ghost use Rattle.lu_laws.specs.Laws.Messages.{Messages};
 ghost use Rattle.lu_laws.specs.Laws.Locks.{Locks};
@@ -16,11 +11,14 @@ ghost use Rattle.lu_laws.specs.Laws.History.{History, HistoryOf};
 ghost use Rattle.lu_laws.specs.Laws.Glimpse.{Glimpse};
 ghost use Rattle.lu_laws.specs.Lawful.{Lawful};
 ghost use Rattle.lu_laws.specs.Orderly.{Orderly};
-ghost use Rattle.lu_lawful.specs.Everywhere.{OfEveryRun, OfAllThatFit};
+ghost use Rattle.lu_lawful.specs.Everywhere.{OfEveryRun, OfAllThatFit, OfEveryBareRun, OfAllBareThatFit};
+ghost use Rattle.lu_lawful.specs.FourLaws.{FourLaws};
 
-/// Every run of the whole table whose lines are covered prints a lawful trace, whatever the network loses, repeats or
-/// reorders, whoever is evicted and joins in a new life, and whichever targets crash, boot again, recover and close their
-/// recovery windows: for every number of clients, of object storage targets and of requests in flight, and every schedule.
+/// Every run of the whole table whose lines are covered keeps four laws, those of messages, locks, acts and recovery, and
+/// where it changes no bytes (no write and no cut begins on a good handle) its printed trace is lawful, by all seven:
+/// whatever the network loses, repeats or reorders, whoever waits for a lock, whoever is evicted and joins in a new life,
+/// and whichever targets crash, boot again, recover and close their recovery windows; for every number of clients, of
+/// object storage targets and of requests in flight, and every schedule.
 ///
 /// Of the law of acts and that of history more is shown: they hold for all lives that will be out and all
 /// numbers that will be lost at the end of the trace, so far as these fit the run; whoever was evicted is out, and what a
@@ -28,15 +26,15 @@ ghost use Rattle.lu_lawful.specs.Everywhere.{OfEveryRun, OfAllThatFit};
 pub fn covered_runs_are_lawful()
     ensures messages { OfEveryRun (λ osts whole. Holds Messages whole) }
     ensures locks { OfEveryRun (λ osts whole. Holds (Locks osts) whole) }
-    ensures silent { OfEveryRun (λ osts whole. Holds Silent whole) }
+    ensures silent { OfEveryBareRun (λ osts whole. Holds Silent whole) }
     ensures acts { OfEveryRun (λ osts whole. Holds (Acts whole) whole) }
     ensures recovery { OfEveryRun (λ osts whole. Holds (Recovery osts whole) whole) }
-    ensures history { OfEveryRun (λ osts whole. Holds (History osts whole) whole) }
-    ensures glimpse { OfEveryRun (λ osts whole. Holds (Glimpse osts whole) whole) }
-    ensures lawful { (head : Head) (turns : List Turn) → IsHead head → IsRun head turns → AllCovered (lines_of turns)
-        → Lawful head.osts (printed (lines_of turns)) }
+    ensures history { OfEveryBareRun (λ osts whole. Holds (History osts whole) whole) }
+    ensures glimpse { OfEveryBareRun (λ osts whole. Holds (Glimpse osts whole) whole) }
+    ensures four { OfEveryRun (λ osts whole. FourLaws osts whole) }
+    ensures lawful { OfEveryBareRun (λ osts whole. Lawful osts whole) }
     ensures acts_of { OfAllThatFit (λ out lost osts whole. Holds (ActsOf out lost whole) whole) }
-    ensures history_of { OfAllThatFit (λ out lost osts whole. Holds (HistoryOf out lost osts) whole) }
+    ensures history_of { OfAllBareThatFit (λ out lost osts whole. Holds (HistoryOf out lost osts) whole) }
 {}
 
 /// The printed trace of every covered run has no line without its cause, as far as `Orderly` says: what acts was asked for
@@ -46,8 +44,7 @@ pub fn covered_runs_are_lawful()
 /// client's next one and follows the notice that the old one is over, and who joins asked for it in that turn, or at a
 /// close since the boot, and is newer than the last one there, which was evicted; a crash comes to a target that is up, a
 /// boot to one that is down, and it is the next one; what only a serving target does stands where it serves; a close is
-/// followed by the commit of what it keeps; and what it keeps and restores was handed in since the boot. Covered runs have
-/// no `wait` line, of which it speaks too.
+/// followed by the commit of what it keeps; and what it keeps and restores was handed in since the boot.
 pub fn covered_runs_are_orderly()
     ensures orderly { OfEveryRun (λ osts whole. Orderly osts whole) }
 {}
