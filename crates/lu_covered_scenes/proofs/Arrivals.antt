@@ -1,10 +1,9 @@
--- What comes to a node in a covered run whose calls are those of a covered scenario's lines: to the metadata target requests on names, to another
--- one, which has granted locks for reading alone, requests for the size of an object, or for a lock to read it, to each target locks that are
--- given back, joins, and what lives that come back tell one that recovers; to a client of the run replies with locks for reading and layouts on
--- object storage targets, blocks, and word that a target is up again, and that its life is served or is over. Where no turn may ask a disk, all
--- is of first lives and of the first boot, and nobody joins or comes back.
-use Rattle.std.proofs.Common.{◌≡◌, ℕ, ◌+◌, ◌<◌, ◌≤◌, Bool, true, false, List, [], ◌∷◌, Option, Some, None, ◌⊎◌, inl, inr, ⊎_elim, refl, sym, subst, ap, ◌∙◌, zero, suc, arith, pos}
-use Rattle.std.specs.Prelude.{nat_eq, nat_lt, not, filter}
+-- What comes to a node in a run of a scenario: to each target requests, what is said of locks, joins, and what lives that come back tell one that
+-- recovers; to a client of the run replies, in which layouts are on object storage targets, locks that waited, blocks, questions of glimpses, and
+-- word that a target is up again, and that its life is served or is over. Where no turn may ask a disk, all is of first lives and of the first
+-- boot, and nobody joins or comes back.
+use Rattle.std.proofs.Common.{◌≡◌, ℕ, ◌+◌, ◌<◌, ◌≤◌, true, false, List, [], ◌∷◌, Option, Some, None, ◌⊎◌, inl, inr, ⊎_elim, refl, sym, subst, ap, ◌∙◌, zero, suc, arith, pos}
+use Rattle.std.specs.Prelude.{nat_eq, nat_lt}
 use Rattle.std.proofs.lemmas.Bool.{cond_both, eqb-true}
 use Rattle.std.proofs.lemmas.Bool.Decides.{nat_tests}
 use Rattle.lu_base.specs.declared.ids.At.{At}
@@ -13,7 +12,6 @@ use Rattle.lu_base.specs.declared.ids.Node.TheVariants.{Client, Target}
 use Rattle.lu_base.specs.declared.ids.Who.{Who}
 use Rattle.lu_base.specs.declared.locks.Cause.{Cause}
 use Rattle.lu_base.specs.declared.locks.Lock.{Lock}
-use Rattle.lu_base.specs.declared.locks.Mode.TheVariants.{PR}
 use Rattle.lu_layout.specs.Raid0.{Raid0}
 use Rattle.lu_machine.specs.Fits.{answer_fits}
 use Rattle.lu_msg.specs.declared.answers.Answer.{Answer}
@@ -31,62 +29,60 @@ use Rattle.lu_trace.specs.WellFormed.{IsCall}
 use Rattle.lu_words.specs.Carried.{Deed, HandleFile, Flight, Outcome}
 use Rattle.lu_words.specs.Concerns.{concerns, only}
 use Rattle.lu_words.specs.Sent.{Sent}
-use Rattle.lu_words.specs.Words.{Entry, Send, Flies, Life, Act, Txn, Grant, Restore, Release, Commit, Boot, Close, Evict, Joined, Wishes, Line, line, is_target}
+use Rattle.lu_words.specs.Words.{Entry, Send, Flies, Life, Act, Txn, Grant, Wait, Answers, Boot, Close, Evict, Joined, Wishes, Line, line}
 use Rattle.lu_target_rows.specs.Lives.{is_life, without_lives, lives_of as lives_in}
 use Rattle.lu_target_rows.specs.Outcomes as recovered
 use Rattle.lu_target_rows.specs.Windows.{Window, kept_numbers, gone_from}
-use Rattle.lu_target_rows.specs.Locks.{with_lock, granted_after}
-use Rattle.lu_target_rows.specs.States.{Setting, Target as TargetState, lives_from, target_at}
+use Rattle.lu_target_rows.specs.States.{Target as TargetState, lives_from}
 use Rattle.lu_covered.specs.Calls.{operation_of, first_life}
 use Rattle.lu_covered.specs.ClientStates.{life_of, is_own}
 use Rattle.lu_covered.specs.Heads.{Head}
 use Rattle.lu_covered.specs.TargetCloses.{disk_of, recovering_of, outcome_of}
-use Rattle.lu_covered.specs.TargetStates.{lives_of, evicted_of, wishes_of, brought_of}
-use Rattle.lu_after.proofs.Targets.{target_line, target_left}
+use Rattle.lu_covered.specs.TargetStates.{lives_of, evicted_of, wishes_of}
 use Rattle.lu_lawful.proofs.Guards.{In, Was, EntryOk}
 use Rattle.lu_lawful.proofs.StoryGuards.{EntryOf, Newer, SaidBy, EvictOk, LeavesOk, JoinedOk, ComesOk, CloseOk, WishesOk}
 use Rattle.lu_lawful.proofs.Grown.{IsOneOf, Grown, GrownOf}
-use Rattle.lu_lawful.proofs.Lists.{self, own_is, in_filter}
+use Rattle.lu_lawful.proofs.Lists.{self, own_is}
 use Rattle.lu_lawful.proofs.Only.{sent_was, was_only, grown_of}
-use Rattle.lu_lawful.proofs.Groups.{turn, Acted, Flew, Evicted, Had, HoldsAt}
+use Rattle.lu_lawful.proofs.Groups.{turn, Acted, Flew, FlewFor, Evicted, Had, HoldsAt}
 use Rattle.lu_lawful.proofs.FactLines.{flew_whole, acted_whole}
 use Rattle.lu_lawful.proofs.All.{holds}
-use Rattle.lu_lawful.proofs.Asked.{AskedBy, flew_asked, acted_on_names}
+use Rattle.lu_lawful.proofs.Asked.{AskedBy, flew_asked}
 use Rattle.lu_lawful.proofs.Layouts.{OnTargets, on_target, IsLaid, acted_laid}
-use Rattle.lu_lawful.proofs.OnNames.{IsOnNames, op_is}
+use Rattle.lu_lawful.proofs.OnNames.{op_is}
 use Rattle.lu_lawful.proofs.Refused.{acted_answered}
-use Rattle.lu_lawful.proofs.Sides.{ToldSize, GotLock, OnObject, ActedKind, acted_kind}
+use Rattle.lu_lawful.proofs.Sides.{flew_kind}
 use Rattle.lu_lawful.proofs.Story.{was_to}
 use Rattle.lu_lawful.proofs.Comings.{request_asked}
-use Rattle.lu_lawful.proofs.ClientLines.{IsSize, IsLock, IsAskedOf}
-use Rattle.lu_lawful.proofs.GuardActs.{acts_sized, sized_bare, KindOf, kind_reads, range_kind}
-use Rattle.lu_lawful.proofs.LockKinds.{given_of, gave_kind, granted_kind, brought_kind}
-use Rattle.lu_lawful.proofs.TargetSizes.{AllRead}
-use Rattle.lu_lawful.proofs.TargetStory.{in_with, in_with_all}
-use Rattle.lu_covered_scenes.specs.Covered.{IsCovered, AsksNoDisk}
+use Rattle.lu_lawful.proofs.ClientLines.{IsOnObject, IsAskedOf}
+use Rattle.lu_table.specs.Limits.{KeepsLimits}
 use Rattle.lu_covered_scenes.proofs.Asking.{IsOf, Suits, IsNode, AllSuit, was_suits}
 use Rattle.lu_covered_scenes.proofs.Clients.{OnOsts, AnswerCalm}
 use Rattle.lu_covered_scenes.proofs.ClientRows.{MessageCalm}
-use Rattle.lu_covered_scenes.proofs.Lines.{MayAsk, lines_known, called_fits, AllOfLines}
-use Rattle.lu_covered_scenes.proofs.Numbers.{IsShort, MessageFits}
-use Rattle.lu_covered_scenes.proofs.Targets.{MayBeAsked, MessageServed}
+use Rattle.lu_covered_scenes.proofs.Lines.{IsQuiet, MayAsk, lines_known, called_fits, AllOfLines}
+use Rattle.lu_covered_scenes.proofs.Numbers.{IsShort}
+use Rattle.lu_covered_scenes.proofs.NumberRows.{MessageFits}
+use Rattle.lu_covered_scenes.proofs.Targets.{Spoken, MessageServed}
 use Rattle.lu_lawful.proofs.GuardLifeLists.{stands_life, life_stands, life_left}
-use Rattle.lu_lawful.proofs.CloseLists.{puts_or, left_all, gone_had, in_wish, in_restored}
+use Rattle.lu_lawful.proofs.CloseLists.{puts_or, left_all, gone_had, in_wish}
 use Rattle.lu_lawful.proofs.LifeLists.{first_among, put_or}
-use Rattle.lu_lawful.proofs.PartsStay.{in_every}
 
 -- ---- between whom messages go
 
 abbrev pub Goes : (from to : Node) → Message → Type 0
 Goes (Client c) (Target t) (message.Request r) = Unit {0}
 Goes (Client c) (Target t) (message.Cancel who boot cookie) = Unit {0}
+Goes (Client c) (Target t) (message.Where who boot cookie) = Unit {0}
+Goes (Client c) (Target t) (message.Size m) = Unit {0}
 Goes (Client c) (Target t) (message.Join who boot) = Unit {0}
 Goes (Client c) (Target t) (message.Replay r) = Unit {0}
 Goes (Client c) (Target t) (message.Lock r) = Unit {0}
 Goes (Client c) (Target t) (message.Word who boot replays locks seen) = Unit {0}
 Goes (Target t) (Client c) (message.Up boot) = Unit {0}
 Goes (Target t) (Client c) (message.Reply k) = Unit {0}
-Goes (Target t) (Client c) (message.Block who boot cookie) = t ≡ 0
+Goes (Target t) (Client c) (message.Grant g) = Unit {0}
+Goes (Target t) (Client c) (message.Block who boot cookie) = Unit {0}
+Goes (Target t) (Client c) (message.Ask who boot cookie for_who xid) = Unit {0}
 Goes (Target t) (Client c) (message.Ready who boot committed) = Unit {0}
 Goes (Target t) (Client c) (message.Evicted who boot) = Unit {0}
 Goes _ _ _ = ⊥
@@ -94,13 +90,17 @@ Goes _ _ _ = ⊥
 send_goes : (past : List Line) (at : At) (node to : Node) (m : Message) → EntryOk past at node (Send to m) → Goes node to m
 send_goes past at (Client c) (Target t) (message.Request r) ok = tt
 send_goes past at (Client c) (Target t) (message.Cancel who boot cookie) ok = tt
+send_goes past at (Client c) (Target t) (message.Where who boot cookie) ok = tt
+send_goes past at (Client c) (Target t) (message.Size m) ok = tt
 send_goes past at (Client c) (Target t) (message.Join who boot) ok = tt
 send_goes past at (Client c) (Target t) (message.Replay r) ok = tt
 send_goes past at (Client c) (Target t) (message.Lock r) ok = tt
 send_goes past at (Client c) (Target t) (message.Word who boot replays locks seen) ok = tt
 send_goes past at (Target t) (Client c) (message.Up boot) ok = tt
 send_goes past at (Target t) (Client c) (message.Reply k) ok = tt
-send_goes past at (Target t) (Client c) (message.Block who boot cookie) ok = ok
+send_goes past at (Target t) (Client c) (message.Grant g) ok = tt
+send_goes past at (Target t) (Client c) (message.Block who boot cookie) ok = tt
+send_goes past at (Target t) (Client c) (message.Ask who boot cookie for_who xid) ok = tt
 send_goes past at (Target t) (Client c) (message.Ready who boot committed) ok = tt
 send_goes past at (Target t) (Client c) (message.Evicted who boot) ok = tt
 send_goes past at node to m ok = absurd ok
@@ -282,6 +282,8 @@ acted_there MayAsk osts head t d (l ∷ past) g s a =
     by (Client c) (Act x) ok one own b more = absurd ok
     by (Client c) (Txn x) ok one own b more = absurd ok
     by (Client c) (Grant lock asked) ok one own b more = absurd ok
+    by (Client c) (Wait lock asked) ok one own b more = absurd ok
+    by (Client c) (Answers x) ok one own b more = absurd ok
     by (Client c) e ok one own b more = more b
 
 -- ---- the paths of operations
@@ -303,116 +305,113 @@ short file (call.Open h path) o e fits = subst IsShort (op_is (op.Open path) o e
 short (Some f) (call.Close h) o e fits = subst IsShort (op_is (op.Close f.number f.fid) o e) tt
 short file k o e fits = absurd (cc)
 
-object_short : (o : Op) → IsSize o ⊎ IsLock o → IsShort o
+object_short : (o : Op) → IsOnObject o → IsShort o
 object_short (op.Size resource) is = tt
-object_short (op.Enqueue resource PR extent) is = tt
-object_short o (inl is) = absurd is
-object_short o (inr is) = absurd is
+object_short (op.Enqueue resource mode extent) is = tt
+object_short (op.Get resource cookie page) is = tt
+object_short (op.Put resource cookie offset bytes) is = tt
+object_short (op.Cut resource cookie size) is = tt
+object_short o is = absurd is
 
 -- ---- answers
-
--- none about names is of a lock on an object
-abbrev OfNames : Answer → Type 0
-OfNames answer.Lock = ⊥
-OfNames (answer.Granted cookie extent size) = ⊥
-OfNames (answer.Waiting cookie) = ⊥
-OfNames _ = Unit {0}
-
-names_fit : (o : Op) (a : Answer) → IsOnNames o → answer_fits o a ≡ true → OfNames a
-names_fit (op.Size resource) a is fits = absurd is
-names_fit (op.Enqueue resource mode extent) a is fits = absurd is
-names_fit o answer.Lock is fits = absurd (cc)
-names_fit o (answer.Granted cookie extent size) is fits = absurd (cc)
-names_fit o (answer.Waiting cookie) is fits = absurd (cc)
-names_fit o a is fits = tt
 
 on_osts : (osts : ℕ) (l : Raid0) → OnTargets osts l.targets → OnOsts l
 on_osts osts l on stripe low = (on_target osts l.targets on stripe low).0
 
-names_answer : (osts : ℕ) (a : Answer) → OfNames a → IsLaid osts a → AnswerCalm a
-names_answer osts (answer.FileStat fid mode links layout) of laid = on_osts osts layout laid
-names_answer osts (answer.Layout layout) of laid = on_osts osts layout laid
-names_answer osts (answer.OpenFile fid number layout) of laid = on_osts osts layout laid
-names_answer osts (answer.Granted cookie extent size) of laid = absurd of
-names_answer osts (answer.Waiting cookie) of laid = absurd of
-names_answer osts answer.Lock of laid = absurd of
-names_answer osts a of laid = tt
+names_answer : (osts : ℕ) (a : Answer) → IsLaid osts a → AnswerCalm a
+names_answer osts (answer.FileStat fid mode links layout) laid = on_osts osts layout laid
+names_answer osts (answer.Layout layout) laid = on_osts osts layout laid
+names_answer osts (answer.OpenFile fid number layout) laid = on_osts osts layout laid
+names_answer osts a laid = tt
 
--- what another target answers
-object_answer : (d : Deed) → OnObject d → AnswerCalm d.reply.answer
-object_answer d k = by k.how
-  where
-    by : ToldSize d ⊎ GotLock d → AnswerCalm d.reply.answer
-    by (inl size) = subst AnswerCalm (sym size.answer) tt
-    by (inr lock) = subst AnswerCalm (sym lock.answer) (refl, refl)
+-- no answer about an object has a layout
+object_answer : (o : Op) (a : Answer) → IsOnObject o → answer_fits o a ≡ true → AnswerCalm a
+object_answer (op.Size resource) (answer.FileStat fid mode links layout) is fits = absurd (cc)
+object_answer (op.Size resource) (answer.Layout layout) is fits = absurd (cc)
+object_answer (op.Size resource) (answer.OpenFile fid number layout) is fits = absurd (cc)
+object_answer (op.Enqueue resource mode extent) (answer.FileStat fid mode2 links layout) is fits = absurd (cc)
+object_answer (op.Enqueue resource mode extent) (answer.Layout layout) is fits = absurd (cc)
+object_answer (op.Enqueue resource mode extent) (answer.OpenFile fid number layout) is fits = absurd (cc)
+object_answer (op.Get resource cookie page) (answer.FileStat fid mode links layout) is fits = absurd (cc)
+object_answer (op.Get resource cookie page) (answer.Layout layout) is fits = absurd (cc)
+object_answer (op.Get resource cookie page) (answer.OpenFile fid number layout) is fits = absurd (cc)
+object_answer (op.Put resource cookie offset bytes) (answer.FileStat fid mode links layout) is fits = absurd (cc)
+object_answer (op.Put resource cookie offset bytes) (answer.Layout layout) is fits = absurd (cc)
+object_answer (op.Put resource cookie offset bytes) (answer.OpenFile fid number layout) is fits = absurd (cc)
+object_answer (op.Cut resource cookie size) (answer.FileStat fid mode links layout) is fits = absurd (cc)
+object_answer (op.Cut resource cookie size) (answer.Layout layout) is fits = absurd (cc)
+object_answer (op.Cut resource cookie size) (answer.OpenFile fid number layout) is fits = absurd (cc)
+object_answer o (answer.FileStat fid mode links layout) is fits = absurd is
+object_answer o (answer.Layout layout) is fits = absurd is
+object_answer o (answer.OpenFile fid number layout) is fits = absurd is
+object_answer o a is fits = tt
 
--- ---- a target that isn't the metadata target has granted locks for reading alone
+-- ---- a life that asks where a lock is, or tells how long an object is
 
-pub grants_reads : (head : Head) (setting : Setting) (clients : ℕ) (past : List Line) → Grown head past → 0 < setting.id → AllRead (target_at setting clients past).granted
-grants_reads head setting clients [] g high = λ k i. absurd i
-grants_reads head setting clients (l ∷ past) g high = by l.at.node refl (is_target setting.id l.at.node) refl (grants_reads head setting clients past g.1 high)
-  where
-    t : ℕ
-    t = setting.id
+module _ (MayAsk : Type 0) (osts : ℕ) (head : Head) where
+  only_suits : (t : ℕ) (past : List Line) → AllSuit MayAsk osts head.clients past → AllSuit MayAsk osts head.clients (only t past)
+  only_suits t [] s = tt
+  only_suits t (l ∷ past) s =
+      let rest = only_suits t past s.1 in
+      cond_both (concerns t l.at.node l.entry) (l ∷ only t past) (only t past) (AllSuit MayAsk osts head.clients) (λ own. (s.0, rest, s.2)) (λ other. rest)
 
-    v : TargetState
-    v = target_at setting clients past
+  -- it says so
+  abbrev Says : Who → Message → Type 0
+  Says who (message.Where other boot cookie) = other ≡ who
+  Says who (message.Size m) = m.who ≡ who
+  Says who m = ⊥
 
-    story : List Line
-    story = only t past
+  -- it is of a client of the run, and the first where no turn may ask a disk
+  abbrev IsPresent : Who → Type 0
+  IsPresent who = IsOf head.clients who × ((MayAsk → ⊥) → who ≡ first_life who.client)
 
-    is_read : (k : Lock) → KindOf t k → k.ask.mode ≡ PR
-    is_read k kind = (kind_reads t k high kind).0
+  present : (past : List Line) → GrownOf head past → AllSuit MayAsk osts head.clients past → (c : ℕ) → c < head.clients → IsPresent (life_of c past)
+  present past g s c one =
+      let same = life_client head past g c in (
+        subst (λ (n : ℕ). n < head.clients) (sym same) one,
+        λ none. life_first MayAsk osts head.clients none past s c ∙ ap first_life (sym same),
+      )
 
-    -- with one more
-    with_one : (lock : Lock) → lock.ask.mode ≡ PR → AllRead v.granted → AllRead (with_lock lock v.granted)
-    with_one lock is h k i = ⊎_elim (λ (e : lock ≡ k). subst (λ (x : Lock). x.ask.mode ≡ PR) e is) (h k) (in_with k lock v.granted i)
+  said_by : (past : List Line) → GrownOf head past → AllSuit MayAsk osts head.clients past → (from to : Node) (m : Message) (who : Who) → Says who m → Was past from to m → IsPresent who
+  said_by [] g s from to m who is w = absurd w
+  said_by (l ∷ past) g s from to m who is w = by l.entry g.0 w (said_by past g.3 s.1 from to m who is)
+    where
+      sends : (node to : Node) (m : Message) → Says who m → EntryOf head past l.at node (Send to m) → IsOneOf head node → IsPresent who
+      sends (Client c) (Target t) (message.Where other boot cookie) is ok one = subst IsPresent (sym ok.of_life ∙ is) (present past g.3 s.1 c one)
+      sends (Client c) (Target t) (message.Size m) is ok one = subst IsPresent (sym ok.of_life ∙ is) (present past g.3 s.1 c one)
+      sends (Client c) (Client d) m is ok one = absurd ok
+      sends (Target t) (Client c) (message.Where other boot cookie) is ok one = absurd ok
+      sends (Target t) (Client c) (message.Size m) is ok one = absurd ok
+      sends (Target t) (Target u) m is ok one = absurd ok
+      sends node to m is ok one = absurd is
 
-    -- a close restores locks that were brought
-    closed : (o : Outcome) → CloseOk head story l.at o → (k : Lock) → In k o.locks → k.ask.mode ≡ PR
-    closed o ok k i =
-        let x : Outcome = outcome_of head.osts head.clients l.at story in
-        let stays : Lock → Bool = λ (j : Lock). not (is_life j.ask.who (lives_in x.gone)) in
-        is_read k (brought_kind head t past g.1 k (in_filter stays k (brought_of story) (in_restored [] (filter stays (brought_of story)) k (subst (λ (y : Outcome). In k y.locks) ok.is i))).0)
+      by : (e : Entry) → EntryOf head past l.at l.at.node e → Was (line l.at e ∷ past) from to m → (Was past from to m → IsPresent who) → IsPresent who
+      by (Send node k) ok w h =
+          ⊎_elim
+          (λ (p : (l.at.node ≡ from) × (node ≡ to) × (k ≡ m)). sends l.at.node node m is (subst (λ (x : Message). EntryOf head past l.at l.at.node (Send node x)) p.2 ok) g.2.one)
+          h w
+      by e ok w h = h w
 
-    own : (e : Entry) → EntryOk past l.at (Target t) e → EntryOf head story l.at (Target t) e → AllRead v.granted → AllRead (granted_after v.granted e)
-    own (Act d) ok of h = λ k i.
-        let bare = sized_bare head.osts story l.at d (acts_sized head.osts story l.at t d high of) in
-        ⊎_elim (λ (j : In k d.reply.locks). absurd (subst (λ (ls : List Lock). In k ls) bare j)) (h k) (in_with_all k d.reply.locks v.granted i)
-    own (Grant lock None) ok of h = absurd ok
-    own (Grant lock (Some d)) ok (inl of) h = absurd (let zero = of.0 in omega (arith, zero, high))
-    own (Grant lock (Some d)) ok (inr of) h = with_one lock (range_kind head.osts story l.at lock d of.1).0 h
-    own (Restore lock) ok of h = with_one lock (is_read lock (granted_kind head t past g.1 lock of.granted)) h
-    own (Release lock) ok of h = λ k i. h k (in_filter (λ (j : Lock). not (nat_eq j.cookie.0 lock.cookie.0)) k v.granted i).0
-    own (Commit to batch) ok of h = λ k i. h k (in_filter (λ (j : Lock). not (is_life j.ask.who batch.removed)) k v.granted i).0
-    own (Close o) ok of h = closed o of
-    own e ok of h = h
-
-    by : (node : Node) → l.at.node ≡ node → (mine : Bool) → is_target setting.id node ≡ mine → AllRead v.granted → AllRead (target_at setting clients (l ∷ past)).granted
-    by node e false mine h = subst (λ (w : TargetState). AllRead w.granted) (sym (target_left setting clients past l.at l.entry (ap (is_target setting.id) e ∙ mine))) h
-    by (Target u) e true mine h =
-        let same : t ≡ u = eqb-true t u mine in
-        let is : l.at.node ≡ Target t = e ∙ ap Target (sym same) in
-        subst (λ (w : TargetState). AllRead w.granted) (sym (target_line setting clients past l.at l.entry (ap (is_target setting.id) e ∙ mine)))
-        (own l.entry (subst (λ (n : Node). EntryOk past l.at n l.entry) is g.0.ok)
-        (subst (λ (n : Node). EntryOf head (only t past) l.at n l.entry) is (g.0.of t (ap (λ (n : Node). concerns t n l.entry) is ∙ self t))) h)
-    by (Client c) e true mine h = absurd (cc)
-
-module _ (scene : Scene) (covered : IsCovered scene) (head : Head) (osts : ℕ) (past : List Line) (g : Grown head past) (suits : AllSuit (MayAsk scene) osts head.clients past) (begun : AllOfLines scene past) where
+module _ (scene : Scene) (limits : KeepsLimits scene) (head : Head) (osts : ℕ) (past : List Line) (g : Grown head past) (suits : AllSuit (MayAsk scene) osts head.clients past) (begun : AllOfLines scene past) where
   -- what was asked has a short path
   asked_short : (o : Op) → AskedBy past o → IsShort o
-  asked_short o a = short a.2 a.0 o a.3 (called_fits scene scene.lines (lines_known scene covered) a.0 (begun a.0 a.1))
+  asked_short o a = short a.2 a.0 o a.3 (called_fits scene scene.lines (lines_known scene limits) a.0 (begun a.0 a.1))
 
   -- ---- to a target
 
   -- where no turn may ask a disk it is of a life that has a slot
-  has_slot : (t : ℕ) (v : TargetState) → (AsksNoDisk scene → v.lives ≡ lives_from 0 head.clients) → (who : Who) (f : Flight) → Flew (only t past) who f → is_life who v.lives ≡ false → MayAsk scene
-  has_slot t v lives who f flew out quiet =
-      let first = flew_first (MayAsk scene) osts head.clients (λ may. may quiet) past suits who f (flew_whole t past who f flew) in
-      let one = flew_one head (only t past) (grown_of head t past g) who f flew in
+  in_slots : (v : TargetState) → (IsQuiet scene → v.lives ≡ lives_from 0 head.clients) → (who : Who) → IsPresent (MayAsk scene) osts head who → is_life who v.lives ≡ false → MayAsk scene
+  in_slots v lives who is out quiet =
+      let one = is.0 in
+      let first = is.1 (λ may. may quiet) in
       let among : is_life who (lives_from 0 head.clients) ≡ true = subst (λ (w : Who). is_life w (lives_from 0 head.clients) ≡ true) (sym first) (first_among 0 head.clients who.client (omega arith) (omega (arith, one))) in
       let has : is_life who v.lives ≡ true = subst (λ (ws : List Who). is_life who ws ≡ true) (sym (lives quiet)) among in
       absurd (cc)
+
+  has_slot : (t : ℕ) (v : TargetState) → (IsQuiet scene → v.lives ≡ lives_from 0 head.clients) → (who : Who) (f : Flight) → Flew (only t past) who f → is_life who v.lives ≡ false → MayAsk scene
+  has_slot t v lives who f flew =
+      in_slots v lives who
+      (flew_one head (only t past) (grown_of head t past g) who f flew, λ none. flew_first (MayAsk scene) osts head.clients none past suits who f (flew_whole t past who f flew))
 
   at_target : (t : ℕ) → HoldsAt head (only t past)
   at_target t = (holds head past g).at t
@@ -427,9 +426,9 @@ module _ (scene : Scene) (covered : IsCovered scene) (head : Head) (osts : ℕ) 
     pub fits : MessageFits m
     pub one : t ≤ osts
 
-  pub target_served : (t : ℕ) (v : TargetState) → v.setting.id ≡ t → (0 < t → AllRead v.granted) → (AsksNoDisk scene → v.lives ≡ lives_from 0 head.clients) → (AsksNoDisk scene → v.boot ≡ 1)
+  pub target_served : (t : ℕ) (v : TargetState) → (IsQuiet scene → v.lives ≡ lives_from 0 head.clients) → (IsQuiet scene → v.boot ≡ 1)
       → (n : ℕ) (from : Node) (m : Message) → Sent past n from (Target t) m → Arrives t v m
-  target_served t v id bare lives boots n from m sent = by from m (was_goes head past from (Target t) m g w) w
+  target_served t v lives boots n from m sent = by from m (was_goes head past from (Target t) m g w) w
     where
       w : Was past from (Target t) m
       w = sent_was past n from (Target t) m sent
@@ -445,6 +444,17 @@ module _ (scene : Scene) (covered : IsCovered scene) (head : Head) (osts : ℕ) 
       tells : (c : ℕ) (m : Message) → (MayAsk scene × (t ≤ osts) → MessageServed (MayAsk scene) head.clients v m) → MessageFits m → MayAsk scene × (t ≤ osts) → Arrives t v m
       tells c m served fits suits = record { served = served suits; fits = fits; one = suits.1 }
 
+      -- one life said it
+      says : (c : ℕ) (m : Message) (who : Who) (boot : ℕ) → Says (MayAsk scene) osts head who m → MessageFits m → 1 ≤ boot → Was (only t past) (Client c) (Target t) m
+          → (Spoken (MayAsk scene) head.clients v who boot → MessageServed (MayAsk scene) head.clients v m) → t ≤ osts → Arrives t v m
+      says c m who boot is fits low w served one =
+          let of = said_by (MayAsk scene) osts head (only t past) (grown_of head t past g) (only_suits (MayAsk scene) osts head t past suits) (Client c) (Target t) m who is w in
+          record {
+            served = served (record { of = of.0; older = present boot low; without = in_slots v lives who of });
+            fits = fits;
+            one = one;
+          }
+
       by : (from : Node) (m : Message) → Goes from (Target t) m → Was past from (Target t) m → Arrives t v m
       by (Client c) (message.Request r) goes w =
           let mine = came head past t (Client c) (message.Request r) g w in
@@ -452,25 +462,26 @@ module _ (scene : Scene) (covered : IsCovered scene) (head : Head) (osts : ℕ) 
           let same : meant.0.op ≡ r.op = ap (λ (x : RequestOf). x.op) (sym meant.2) in
           let kind : IsAskedOf t r.op = request_asked head past c t r g w in
           record {
-            served = (
-              may kind,
-              record {
-                of = spoken (Client c) (message.Request r) r.who refl mine;
-                older = present r.boot ((at_target t).boots (Client c) (Target t) (message.Request r) mine).0;
-                without = has_slot t v lives r.who meant.0 meant.1;
-              },
-            );
+            served = record {
+              of = spoken (Client c) (message.Request r) r.who refl mine;
+              older = present r.boot ((at_target t).boots (Client c) (Target t) (message.Request r) mine).0;
+              without = has_slot t v lives r.who meant.0 meant.1;
+            };
             fits = short_one meant.0 r.who same meant.1 kind;
             one = (was_suits (MayAsk scene) osts head.clients past (Client c) (Target t) (message.Request r) suits w).0.0;
           }
         where
-          may : IsAskedOf t r.op → MayBeAsked v r.op
-          may (inl k) = inl (id ∙ k.0)
-          may (inr k) = inr (subst (λ (n : ℕ). 0 < n) (sym id) k.0, k.1, bare k.0)
-
           short_one : (f : Flight) (who : Who) → f.op ≡ r.op → Flew (only t past) who f → IsAskedOf t r.op → IsShort r.op
           short_one f who same flew (inl k) = asked_short r.op (subst (AskedBy past) same (flew_asked head past who f g (subst (λ (n : ℕ). Flew (only n past) who f) k.0 flew)))
           short_one f who same flew (inr k) = object_short r.op k.1
+      by (Client c) (message.Where who boot cookie) goes w =
+          let mine = came head past t (Client c) (message.Where who boot cookie) g w in
+          says c (message.Where who boot cookie) who boot refl tt ((at_target t).boots (Client c) (Target t) (message.Where who boot cookie) mine).0 mine (λ s. s)
+          (was_suits (MayAsk scene) osts head.clients past (Client c) (Target t) (message.Where who boot cookie) suits w).0
+      by (Client c) (message.Size m) goes w =
+          let mine = came head past t (Client c) (message.Size m) g w in
+          says c (message.Size m) m.who m.boot refl tt ((at_target t).boots (Client c) (Target t) (message.Size m) mine).0 mine (λ s. s)
+          (was_suits (MayAsk scene) osts head.clients past (Client c) (Target t) (message.Size m) suits w).0
       by (Client c) (message.Cancel who boot cookie) goes w =
           let mine = came head past t (Client c) (message.Cancel who boot cookie) g w in
           let back = (at_target t).locks.cancels (Client c) (Target t) who boot cookie mine in
@@ -503,17 +514,17 @@ module _ (scene : Scene) (covered : IsCovered scene) (head : Head) (osts : ℕ) 
 
   -- what a target answers
   deed_calm : (t : ℕ) (d : Deed) → Acted (only t past) d → AnswerCalm d.reply.answer
-  deed_calm t d a = by (acted_kind head past t d g a)
+  deed_calm t d a = by (subst (IsAskedOf t) f.3 (flew_kind head past t d.reply.who f.0 g f.1))
     where
-      names : (z : t ≡ 0) → AnswerCalm d.reply.answer
-      names z =
-          let first : Acted (only 0 past) d = subst (λ (n : ℕ). Acted (only n past) d) z a in
-          let whole : Acted past d = acted_whole t past d a in
-          names_answer head.osts d.reply.answer (names_fit d.op d.reply.answer (acted_on_names head past d g first) (acted_answered head past d g whole).0) (acted_laid head past d g whole)
+      f : FlewFor (only t past) d
+      f = (at_target t).done.flew d a
 
-      by : ActedKind t d → AnswerCalm d.reply.answer
-      by (inl k) = names k.0
-      by (inr k) = object_answer d k.1
+      whole : Acted past d
+      whole = acted_whole t past d a
+
+      by : IsAskedOf t d.op → AnswerCalm d.reply.answer
+      by (inl names) = names_answer head.osts d.reply.answer (acted_laid head past d g whole)
+      by (inr object) = object_answer d.op d.reply.answer object.1 (acted_answered head past d g whole).0
 
   pub client_calm : (n c : ℕ) (from : Node) (m : Message) → Sent past n from (Client c) m → MessageCalm (MayAsk scene) osts from m
   client_calm n c from m sent = by from m (was_goes head past from (Client c) m g w) w
@@ -525,10 +536,9 @@ module _ (scene : Scene) (covered : IsCovered scene) (head : Head) (osts : ℕ) 
       by (Target t) (message.Reply r) goes w =
           let was = told past t (Client c) (message.Reply r) w in
           let meant = (at_target t).done.sent (Target t) (Client c) (message.Reply r) was in
-          let fine = (given_of head t past g).has.sent (Target t) (Client c) r was in (
-            in_every (KindOf t) r.locks (λ l i. gave_kind head t past g l (fine.locks l i).0),
-            subst AnswerCalm (sym (ap (λ (x : ReplyTo). x.answer) meant.is)) (deed_calm t meant.deed meant.acted),
-          )
+          subst AnswerCalm (sym (ap (λ (x : ReplyTo). x.answer) meant.is)) (deed_calm t meant.deed meant.acted)
+      by (Target t) (message.Grant notice) goes w = tt
+      by (Target t) (message.Ask who boot cookie for_who xid) goes w = (was_suits (MayAsk scene) osts head.clients past (Target t) (Client c) (message.Ask who boot cookie for_who xid) suits w).1
       by (Target t) (message.Block who boot cookie) goes w = tt
       by (Target t) (message.Up boot) goes w =
           let suits = was_suits (MayAsk scene) osts head.clients past (Target t) (Client c) (message.Up boot) suits w in
@@ -557,6 +567,14 @@ module _ (head : Head) (past : List Line) (g : Grown head past) (t : ℕ) where
   sent_one MayAsk osts c (message.Reply k) goes suits w =
       let meant = at_each.done.sent (Target t) (Client c) (message.Reply k) (told past t (Client c) (message.Reply k) w) in
       subst (λ (n : ℕ). n < head.clients) (sym (meant.to ∙ ap (λ (r : ReplyTo). r.who.client) meant.is)) (done_one meant.deed meant.acted)
+  sent_one MayAsk osts c (message.Grant notice) goes suits w =
+      let was = told past t (Client c) (message.Grant notice) w in
+      let given = at_each.locks.notices (Target t) (Client c) notice was in
+      let meant = at_each.done.sent (Target t) (Client c) (message.Grant notice) was in
+      subst (λ (n : ℕ). n < head.clients) (ap (λ (w : Who). w.client) given.of ∙ sym meant.to) (done_one given.deed given.gave.0)
+  sent_one MayAsk osts c (message.Ask who boot cookie for_who xid) goes suits w =
+      let meant = at_each.done.sent (Target t) (Client c) (message.Ask who boot cookie for_who xid) (told past t (Client c) (message.Ask who boot cookie for_who xid) w) in
+      subst (λ (n : ℕ). n < head.clients) (sym meant.0) (flew_one head (only t past) story who meant.1.0 meant.1.1)
   sent_one MayAsk osts c (message.Block who boot cookie) goes suits w =
       let called = at_each.locks.blocks (Target t) c who boot cookie (told past t (Client c) (message.Block who boot cookie) w) in
       subst (λ (n : ℕ). n < head.clients) (ap (λ (w : Who). w.client) called.of ∙ called.to) (done_one called.deed called.gave.0)

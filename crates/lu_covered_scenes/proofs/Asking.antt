@@ -29,6 +29,8 @@ IsOrdered _ = Unit {0}
 -- MayAsk: a turn may ask a disk
 abbrev pub Suits : Type 0 → (osts clients : ℕ) → Entry → Type 0
 Suits MayAsk osts clients (Send (Target t) (message.Request r)) = (t ≤ osts) × IsOrdered r.op
+Suits MayAsk osts clients (Send (Target t) (message.Where who boot cookie)) = t ≤ osts
+Suits MayAsk osts clients (Send (Target t) (message.Size m)) = t ≤ osts
 Suits MayAsk osts clients (Send (Target t) (message.Join who boot)) = MayAsk × (t ≤ osts)
 Suits MayAsk osts clients (Send (Target t) (message.Replay r)) = MayAsk × (t ≤ osts)
 Suits MayAsk osts clients (Send (Target t) (message.Lock r)) = MayAsk × (t ≤ osts)

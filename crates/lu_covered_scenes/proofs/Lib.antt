@@ -1,11 +1,13 @@
 pub mod Every
 pub mod Asking
 pub mod Clients
+pub mod ClientSlots
 pub mod ClientRows
 pub mod Served
 pub mod Windows
 pub mod Targets
 pub mod Numbers
+pub mod NumberRows
 pub mod Lines
 pub mod Arrivals
 pub mod Turns
@@ -17,6 +19,10 @@ pub use Rattle.lu_lawful.proofs.Groups
 pub use Rattle.lu_lawful.proofs.OnNames
 pub use Rattle.lu_lawful.proofs.Sides
 pub use Rattle.lu_lawful.proofs.FactLines
+pub use Rattle.lu_lawful.proofs.Refused
+pub use Rattle.lu_lawful.proofs.BareObjects
+pub use Rattle.lu_lawful.proofs.BareCalls
+pub use Rattle.lu_lawful.proofs.BareSteps
 pub use Rattle.lu_lawful.proofs.Guards
 pub use Rattle.lu_lawful.proofs.StoryGuards
 pub use Rattle.lu_lawful.proofs.Grown
@@ -25,10 +31,9 @@ pub use Rattle.lu_lawful.proofs.Parts
 pub use Rattle.lu_lawful.proofs.GuardTurns
 pub use Rattle.lu_lawful.proofs.ClientLines
 pub use Rattle.lu_lawful.proofs.ClientLocks
+pub use Rattle.lu_lawful.proofs.ClientHears
 pub use Rattle.lu_lawful.proofs.ClientReplies
 pub use Rattle.lu_lawful.proofs.Held
 pub use Rattle.lu_lawful.proofs.Only
 pub use Rattle.lu_lawful.proofs.LockKinds
-pub use Rattle.lu_lawful.proofs.Has
-pub use Rattle.lu_lawful.proofs.GuardGiven
 pub use Rattle.lu_lawful.proofs.FactLockLists

@@ -1,4 +1,4 @@
--- What is known of the lines of a scenario that is covered, and of its calls.
+-- What is known of the lines of a scenario, and of its calls; and that a run of a scenario that changes no bytes changes none.
 use Rattle.std.proofs.Common.{◌≡◌, ℕ, ◌<◌, ◌≤◌, List, [], ◌∷◌, None, ◌⊎◌, inl, inr, refl, sym, subst, arith}
 use Rattle.std.specs.Prelude.{All}
 use Rattle.std.proofs.lemmas.List.Elements.{All-head, All-tail}
@@ -14,18 +14,20 @@ use Rattle.lu_covered.specs.Makes.{Path, CallMakes, Misses}
 use Rattle.lu_lawful.proofs.Asked.{Began}
 use Rattle.lu_lawful.proofs.Finds.{Made_in}
 use Rattle.lu_lawful.proofs.Unlocked.{misses_fewer, AllMiss}
+use Rattle.lu_covered.specs.Covered.{ChangesNoBytes, AllBare}
+use Rattle.lu_table.specs.Limits.{KeepsLimits}
 use Rattle.lu_table.specs.Scenarios.{head_of, with_stripes}
-use Rattle.lu_words.specs.Words.{Line}
+use Rattle.lu_words.specs.Words.{Entry, Begin, Line, line}
 use Rattle.lu_after.proofs.Runs.{begins_meets}
 use Rattle.lu_covered_scenes.specs.Covered as scenes
-use Rattle.lu_covered_scenes.specs.Covered.{IsMade, ChangesNoBytes, IsLineCovered, IsNoCommand, LineMisses, IsCovered, AsksNoDisk}
+use Rattle.lu_covered_scenes.specs.Covered.{IsMade, IsLineCovered, IsNoCommand, LineMisses, IsCovered, AsksNoDisk}
 
 -- ---- calls
 
 -- a call changes no bytes with the stripes that it is given either
-asks : (call : CallOf) → ChangesNoBytes call → ChangesNoBytes (with_stripes call)
-asks (call.Create path None) is = tt
-asks call is = is
+changes_none : (call : CallOf) → ChangesNoBytes call → ChangesNoBytes (with_stripes call)
+changes_none (call.Create path None) is = tt
+changes_none call is = is
 
 -- the stripes make no other path, and ask for none
 makes_same : (call : CallOf) (path : Path) → CallMakes (with_stripes call) path → CallMakes call path
@@ -38,9 +40,13 @@ misses_same Made call m = m
 
 -- ---- disks
 
+-- of a scenario that changes no bytes: it asks none
+abbrev pub IsQuiet : Scene → Type 0
+IsQuiet scene = IsCovered scene × AsksNoDisk scene
+
 -- a turn of what the scenario comes to may ask one
 abbrev pub MayAsk : Scene → Type 0
-MayAsk scene = AsksNoDisk scene → ⊥
+MayAsk scene = IsQuiet scene → ⊥
 
 -- ---- lines
 
@@ -58,7 +64,7 @@ pub record IsCommandTo (lines : List SceneLine) (osts target : ℕ) : Type 0 whe
 -- what is known of a line of a scenario of these lines, with so many clients and object storage targets
 abbrev pub IsKnown : List SceneLine → (clients osts : ℕ) → SceneLine → Type 0
 IsKnown lines clients osts (Call client slot call) =
-    record { one : client < clients; small : slot < 4; limits : IsCall (with_stripes call); asks : ChangesNoBytes (with_stripes call); among : Calls lines (with_stripes call) }
+    record { one : client < clients; small : slot < 4; limits : IsCall (with_stripes call); among : Calls lines (with_stripes call) }
 IsKnown lines clients osts Run = Unit {0}
 IsKnown lines clients osts (RunSome turns) = Unit {0}
 IsKnown lines clients osts (Deliver number) = Unit {0}
@@ -77,21 +83,21 @@ AllKnown scene [] = Unit {0}
 AllKnown scene (line ∷ lines) = IsKnown scene.lines scene.head.clients scene.head.osts line × AllKnown scene lines
 
 module _ (scene : Scene) where
-  one_known : (line : SceneLine) → LineFits scene.head line → IsLineCovered line → (All IsNoCommand scene.lines → IsNoCommand line) → ((call : CallOf) → Calls (line ∷ []) call → Calls scene.lines call) → IsKnown scene.lines scene.head.clients scene.head.osts line
-  one_known (Call client slot call) fits is quiet among =
-      record { one = fits.0; small = omega (arith, fits.1); limits = (begins_meets (head_of scene.head) [] client slot call fits.0 refl (omega (arith, fits.1)) fits.2).2; asks = asks call is; among = among (with_stripes call) (inl refl) }
-  one_known Run fits is quiet among = tt
-  one_known (RunSome turns) fits is quiet among = tt
-  one_known (Deliver number) fits is quiet among = tt
-  one_known (Lose number) fits is quiet among = tt
-  one_known (Tick (Client client)) fits is quiet among = fits
-  one_known (Tick (Target target)) fits is quiet among = fits
-  one_known (Commit target) fits is quiet among = record { one = fits; some = quiet }
-  one_known (CommitSome target count) fits is quiet among = record { one = fits.0; some = quiet }
-  one_known (Crash target) fits is quiet among = record { one = fits; some = quiet }
-  one_known (Boot target) fits is quiet among = record { one = fits; some = quiet }
-  one_known (Close target) fits is quiet among = record { one = fits; some = quiet }
-  one_known (Die client) fits is quiet among = fits
+  one_known : (line : SceneLine) → LineFits scene.head line → (All IsNoCommand scene.lines → IsNoCommand line) → ((call : CallOf) → Calls (line ∷ []) call → Calls scene.lines call) → IsKnown scene.lines scene.head.clients scene.head.osts line
+  one_known (Call client slot call) fits quiet among =
+      record { one = fits.0; small = omega (arith, fits.1); limits = (begins_meets (head_of scene.head) [] client slot call fits.0 refl (omega (arith, fits.1)) fits.2).2; among = among (with_stripes call) (inl refl) }
+  one_known Run fits quiet among = tt
+  one_known (RunSome turns) fits quiet among = tt
+  one_known (Deliver number) fits quiet among = tt
+  one_known (Lose number) fits quiet among = tt
+  one_known (Tick (Client client)) fits quiet among = fits
+  one_known (Tick (Target target)) fits quiet among = fits
+  one_known (Commit target) fits quiet among = record { one = fits; some = quiet }
+  one_known (CommitSome target count) fits quiet among = record { one = fits.0; some = quiet }
+  one_known (Crash target) fits quiet among = record { one = fits; some = quiet }
+  one_known (Boot target) fits quiet among = record { one = fits; some = quiet }
+  one_known (Close target) fits quiet among = record { one = fits; some = quiet }
+  one_known (Die client) fits quiet among = fits
 
   first : (line : SceneLine) (lines : List SceneLine) (call : CallOf) → Calls (line ∷ []) call → Calls (line ∷ lines) call
   first (Call client slot begun) lines call (inl e) = inl e
@@ -102,17 +108,17 @@ module _ (scene : Scene) where
   later (Call client slot begun) lines call i = inr i
   later _ lines call i = i
 
-  all_known : (lines : List SceneLine) → All (LineFits scene.head) lines → All IsLineCovered lines → (All IsNoCommand scene.lines → All IsNoCommand lines) → ((call : CallOf) → Calls lines call → Calls scene.lines call) → AllKnown scene lines
-  all_known [] fit are quiet among = tt
-  all_known (line ∷ lines) fit are quiet among = (
-    one_known line (All-head (LineFits scene.head) line lines fit) (All-head IsLineCovered line lines are)
+  all_known : (lines : List SceneLine) → All (LineFits scene.head) lines → (All IsNoCommand scene.lines → All IsNoCommand lines) → ((call : CallOf) → Calls lines call → Calls scene.lines call) → AllKnown scene lines
+  all_known [] fit quiet among = tt
+  all_known (line ∷ lines) fit quiet among = (
+    one_known line (All-head (LineFits scene.head) line lines fit)
         (λ all. All-head IsNoCommand line lines (quiet all)) (λ call i. among call (first line lines call i)),
-    all_known lines (All-tail (LineFits scene.head) line lines fit) (All-tail IsLineCovered line lines are)
+    all_known lines (All-tail (LineFits scene.head) line lines fit)
         (λ all. All-tail IsNoCommand line lines (quiet all)) (λ call i. among call (later line lines call i)),
   )
 
-  pub lines_known : IsCovered scene → AllKnown scene scene.lines
-  lines_known is = all_known scene.lines is.limits.lines is.lines (λ all. all) (λ call i. i)
+  pub lines_known : KeepsLimits scene → AllKnown scene scene.lines
+  lines_known limits = all_known scene.lines limits.lines (λ all. all) (λ call i. i)
 
 -- ---- the calls of lines
 
@@ -155,3 +161,16 @@ pub all_miss : (scene : Scene) → scenes.AllMiss scene.lines → (past : List L
 all_miss scene miss past begun call began =
     misses_fewer (IsMade scene.lines) (Made_in past) (λ path m. called_made scene.lines m.0 path (begun m.0 m.1) m.2) call
     (called (LineMisses (IsMade scene.lines)) (Misses (IsMade scene.lines)) (λ client slot made m. misses_same (IsMade scene.lines) made m) scene.lines call miss (begun call began))
+
+-- ---- where no line's call changes bytes, none does
+
+pub all_bare : (scene : Scene) → IsCovered scene → (past : List Line) → AllOfLines scene past → AllBare past
+all_bare scene covered [] begun = tt
+all_bare scene covered (l ∷ past) begun = by l.entry begun (all_bare scene covered past)
+  where
+    bare : (call : CallOf) → Calls scene.lines call → ChangesNoBytes call
+    bare call i = called IsLineCovered ChangesNoBytes (λ client slot made is. changes_none made is) scene.lines call covered.lines i
+
+    by : (e : Entry) → AllOfLines scene (line l.at e ∷ past) → (AllOfLines scene past → AllBare past) → AllBare (line l.at e ∷ past)
+    by (Begin slot running) begun more = (inr (bare running.call (begun running.call (inl refl))), more (λ call i. begun call (inr i)))
+    by e begun more = (tt, more begun)

@@ -1,4 +1,5 @@
--- Whatever a covered scenario comes to, where no disk has failed, is a covered run of the whole table.
+-- Whatever a scenario comes to, where no disk has failed, is a covered run of the whole table; and it changes no bytes, where the scenario
+-- doesn't.
 use Rattle.std.proofs.Common.{◌≡◌, ℕ, zero, suc, ◌+◌, ◌<◌, ◌≤◌, Bool, true, false, List, [], ◌∷◌, Option, Some, None, inl, inr, refl, sym, subst, ap, arith}
 use Rattle.std.specs.Prelude.{not, if◌then◌else◌, length}
 use Rattle.std.proofs.lemmas.Bool.Decides.{nat_tests}
@@ -19,7 +20,8 @@ use Rattle.lu_target_rows.specs.Rows as target
 use Rattle.lu_table.specs.Heads.{Head}
 use Rattle.lu_table.specs.Runs.{EventAt, lines_of, has_failed, IsRun, Meets, client_of, target_of, limits_of}
 use Rattle.lu_table.specs.Scenarios.{Config, Next, Stops, Fails, Goes, head_of, past_of, is_full, with_turn, left, Disks, start_fails, start_turn, is_down, turn_of, due, arrives, due_alive, comes, runs, next_by, with_stripes, Leads, here, more, start}
-use Rattle.lu_covered.specs.Covered.{AllCovered}
+use Rattle.lu_covered.specs.Covered.{AllCovered, AllBare}
+use Rattle.lu_table.specs.Limits.{KeepsLimits}
 use Rattle.lu_after.specs.InTable.{next_at}
 use Rattle.lu_after.proofs.Clients.{client_first}
 use Rattle.lu_after.proofs.Posts.{sent_at_is}
@@ -27,12 +29,13 @@ use Rattle.lu_after.proofs.Runs.{first_in, left_in, spent_in, client_meets}
 use Rattle.lu_lawful.proofs.GuardTurns.{covered_head}
 use Rattle.lu_covered_scenes.specs.Covered.{IsCovered, EvictsNone, AsksNoDisk, ticks_of}
 use Rattle.lu_covered_scenes.proofs.Arrivals.{client_calm, to_client}
-use Rattle.lu_covered_scenes.proofs.Clients.{ImportsCalm, Calm}
+use Rattle.lu_covered_scenes.proofs.Every.{Every}
+use Rattle.lu_covered_scenes.proofs.Clients.{ImportCalm, Calm}
 use Rattle.lu_covered_scenes.proofs.ClientRows.{EventCalm}
-use Rattle.lu_covered_scenes.proofs.Lines.{MayAsk, Calls, IsCommandTo, AllKnown, lines_known}
+use Rattle.lu_covered_scenes.proofs.Lines.{IsQuiet, MayAsk, Calls, IsCommandTo, AllKnown, lines_known, all_bare}
 use Rattle.lu_covered_scenes.proofs.Turns.{Sound, IsTimely, Timely, Makes, made, Spared, covered_unfailed, past_grown, client_makes, client_timely, comes_makes, comes_timely, names_due, others_due, tick_makes, names_timely, other_timely, commit_makes, commit_timely, crash_makes, crash_timely, close_makes, close_timely, boot_makes, boot_timely}
 
--- a configuration to which a covered scenario leads
+-- a configuration to which a scenario leads
 pub record Follows (scene : Scene) (c : Config) : Type 0 where
   pub sound : Sound scene c
   pub lines : AllKnown scene c.lines
@@ -63,7 +66,7 @@ pub so_up : (up : Bool) → not up ≡ false → up ≡ true
 so_up true e = refl
 so_up false e = absurd (cc)
 
-module _ (scene : Scene) (covered : IsCovered scene) (disks : Disks) where
+module _ (scene : Scene) (limits : KeepsLimits scene) (disks : Disks) where
   abbrev head : Head
   head = head_of scene.head
 
@@ -87,7 +90,7 @@ module _ (scene : Scene) (covered : IsCovered scene) (disks : Disks) where
   -- ---- one step: whatever comes next, if the run goes on
 
   abbrev Kept : Next → Type 0
-  Kept next = (d : Config) → next ≡ Goes d → Spared scene covered (past_of d) → Follows scene d
+  Kept next = (d : Config) → next ≡ Goes d → Spared scene limits (past_of d) → Follows scene d
 
   moved : (c : Config) → Follows scene c → Kept (Goes c)
   moved c f d e spared = subst (λ (v : Config). Follows scene v) (goes c d e) f
@@ -96,12 +99,12 @@ module _ (scene : Scene) (covered : IsCovered scene) (disks : Disks) where
   left_moved c lines s l = moved (left c lines) (record { sound = sound_left c lines s; lines = l.known; time = l.time })
 
   -- a turn that its node makes
-  turn_follows : (c : Config) (node : Node) (event : EventAt node) → AllKnown scene c.lines → Makes scene covered c node event → Timely scene (ticks_of c.lines) (past_of (made scene covered c node event))
-      → Spared scene covered (past_of (with_turn c (turn_of head disks c node event))) → Follows scene (with_turn c (turn_of head disks c node event))
+  turn_follows : (c : Config) (node : Node) (event : EventAt node) → AllKnown scene c.lines → Makes scene limits c node event → Timely scene (ticks_of c.lines) (past_of (made scene limits c node event))
+      → Spared scene limits (past_of (with_turn c (turn_of head disks c node event))) → Follows scene (with_turn c (turn_of head disks c node event))
   turn_follows c node event known m time spared =
       subst (λ (es : List Entry). Follows scene (with_turn c (record { at = next_at c node; entries = es }))) (sym (m.same disks spared)) (record { sound = m.sound; lines = known; time = time })
 
-  due_keeps : (c : Config) (node : Node) (event : EventAt node) → AllKnown scene c.lines → (length c.turns < 65536 → Makes scene covered c node event) → Timely scene (ticks_of c.lines) (past_of (made scene covered c node event))
+  due_keeps : (c : Config) (node : Node) (event : EventAt node) → AllKnown scene c.lines → (length c.turns < 65536 → Makes scene limits c node event) → Timely scene (ticks_of c.lines) (past_of (made scene limits c node event))
       → Kept (due head disks c node event)
   due_keeps c node event known makes time = by (is_full c) refl
     where
@@ -111,7 +114,7 @@ module _ (scene : Scene) (covered : IsCovered scene) (disks : Disks) where
           let next = with_turn c (turn_of head disks c node event) in
           let is = goes next d same in
           subst (λ (v : Config). Follows scene v) is
-          (turn_follows c node event known (makes (has_room c e)) time (subst (λ (v : Config). Spared scene covered (past_of v)) (sym is) spared))
+          (turn_follows c node event known (makes (has_room c e)) time (subst (λ (v : Config). Spared scene limits (past_of v)) (sym is) spared))
 
   -- ---- a line of a client
 
@@ -122,8 +125,8 @@ module _ (scene : Scene) (covered : IsCovered scene) (disks : Disks) where
       by : (dead : Bool) → is_dead who (past_of c) ≡ dead → Kept (if dead then Goes (left c rest) else due head disks (left c rest) (Client who) event)
       by true e = left_moved c rest s l
       by false e =
-          due_keeps (left c rest) (Client who) event l.known (λ room. client_makes scene covered (left c rest) who event (sound_left c rest s) (meets e) calm)
-          (client_timely scene covered (left c rest) who event (ticks_of rest) l.time)
+          due_keeps (left c rest) (Client who) event l.known (λ room. client_makes scene limits (left c rest) who event (sound_left c rest s) (meets e) calm)
+          (client_timely scene limits (left c rest) who event (ticks_of rest) l.time)
 
   -- ---- a message
 
@@ -131,13 +134,13 @@ module _ (scene : Scene) (covered : IsCovered scene) (disks : Disks) where
   arrives_keeps : (c : Config) (n : ℕ) (from : Node) (m : Message) (node : Node) → Sound scene c → AllKnown scene c.lines → Timely scene (ticks_of c.lines) (past_of c) → Sent (past_of c) n from node m → is_down head disks node (past_of c) ≡ false
       → Kept (due head disks c node (arrives head disks n from m node))
   arrives_keeps c n from m (Client who) s known time sent up =
-      let g = past_grown scene covered c s in
+      let g = past_grown scene limits c s in
       due_keeps c (Client who) (client.Comes n from m) known
-      (λ room. client_makes scene covered c who (client.Comes n from m) s (client_meets head (past_of c) who n from m (to_client (MayAsk scene) head.osts (covered_head head) (past_of c) g s.suits n who from m sent) up sent)
-      (client_calm scene covered (covered_head head) head.osts (past_of c) g s.suits s.begun n who from m sent))
-      (client_timely scene covered c who (client.Comes n from m) (ticks_of c.lines) time)
+      (λ room. client_makes scene limits c who (client.Comes n from m) s (client_meets head (past_of c) who n from m (to_client (MayAsk scene) head.osts (covered_head head) (past_of c) g s.suits n who from m sent) up sent)
+      (client_calm scene limits (covered_head head) head.osts (past_of c) g s.suits s.begun n who from m sent))
+      (client_timely scene limits c who (client.Comes n from m) (ticks_of c.lines) time)
   arrives_keeps c n from m (Target t) s known time sent up =
-      due_keeps c (Target t) (target.Comes n from m) known (comes_makes scene covered c t n from m s sent (so_up (target_of head t (past_of c)).up up)) (comes_timely scene covered c t n from m s sent (ticks_of c.lines) time)
+      due_keeps c (Target t) (target.Comes n from m) known (comes_makes scene limits c t n from m s sent (so_up (target_of head t (past_of c)).up up)) (comes_timely scene limits c t n from m s sent (ticks_of c.lines) time)
 
   comes_keeps : (c : Config) (n : ℕ) (o : Option SentMessage) (thrown taken : List SceneLine) → Sound scene c → sent_at c.posts n ≡ o → Left c thrown → Left c taken → Kept (comes head disks c n o thrown taken)
   comes_keeps c n None thrown taken s e if_thrown if_taken = left_moved c thrown s if_thrown
@@ -158,13 +161,13 @@ module _ (scene : Scene) (covered : IsCovered scene) (disks : Disks) where
   tick_keeps c zero rest s l =
       let after = left c rest in
       let sound = sound_left c rest s in
-      due_keeps after (Target 0) target.Ticks l.known.1 (λ room. tick_makes scene covered after 0 sound (names_due scene covered after (ticks_of rest) sound l.time) room l.known.0)
-      (names_timely scene covered after (ticks_of rest) sound l.time)
+      due_keeps after (Target 0) target.Ticks l.known.1 (λ room. tick_makes scene limits after 0 sound (names_due scene limits after (ticks_of rest) sound l.time) room l.known.0)
+      (names_timely scene limits after (ticks_of rest) sound l.time)
   tick_keeps c (suc t) rest s l =
       let after = left c rest in
       let sound = sound_left c rest s in
-      due_keeps after (Target (suc t)) target.Ticks l.known.1 (λ room. tick_makes scene covered after (suc t) sound (others_due scene covered after (suc t) sound (λ e. absurd (cc))) room l.known.0)
-      (other_timely scene covered after (suc t) (ticks_of rest) (grind (arith, nat_tests)) l.time)
+      due_keeps after (Target (suc t)) target.Ticks l.known.1 (λ room. tick_makes scene limits after (suc t) sound (others_due scene limits after (suc t) sound (λ e. absurd (cc))) room l.known.0)
+      (other_timely scene limits after (suc t) (ticks_of rest) (grind (arith, nat_tests)) l.time)
 
   -- ---- a command to a target
 
@@ -172,31 +175,31 @@ module _ (scene : Scene) (covered : IsCovered scene) (disks : Disks) where
   commit_keeps c t count rest s l to =
       let after = left c rest in
       let sound = sound_left c rest s in
-      due_keeps after (Target t) (target.Commits count) l.known (λ room. commit_makes scene covered after t sound to.some count room to.one) (commit_timely scene covered after t sound to.some count (ticks_of rest) l.time)
+      due_keeps after (Target t) (target.Commits count) l.known (λ room. commit_makes scene limits after t sound to.some count room to.one) (commit_timely scene limits after t sound to.some count (ticks_of rest) l.time)
 
   crash_keeps : (c : Config) (t : ℕ) (rest : List SceneLine) → Sound scene c → Left c rest → IsCommandTo scene.lines head.osts t → Kept (due head disks (left c rest) (Target t) target.Crashes)
   crash_keeps c t rest s l to =
       let after = left c rest in
       let sound = sound_left c rest s in
-      due_keeps after (Target t) target.Crashes l.known (λ room. crash_makes scene covered after t sound to.some room to.one) (crash_timely scene covered after t sound to.some (ticks_of rest) l.time)
+      due_keeps after (Target t) target.Crashes l.known (λ room. crash_makes scene limits after t sound to.some room to.one) (crash_timely scene limits after t sound to.some (ticks_of rest) l.time)
 
   close_keeps : (c : Config) (t : ℕ) (rest : List SceneLine) → Sound scene c → Left c rest → IsCommandTo scene.lines head.osts t → Kept (due head disks (left c rest) (Target t) target.Closes)
   close_keeps c t rest s l to =
       let after = left c rest in
       let sound = sound_left c rest s in
-      due_keeps after (Target t) target.Closes l.known (λ room. close_makes scene covered after t sound to.some room to.one) (close_timely scene covered after t sound to.some (ticks_of rest) l.time)
+      due_keeps after (Target t) target.Closes l.known (λ room. close_makes scene limits after t sound to.some room to.one) (close_timely scene limits after t sound to.some (ticks_of rest) l.time)
 
   boot_keeps : (c : Config) (t : ℕ) (rest : List SceneLine) → Sound scene c → Left c rest → IsCommandTo scene.lines head.osts t → Kept (due head disks (left c rest) (Target t) target.Boots)
   boot_keeps c t rest s l to =
       let after = left c rest in
       let sound = sound_left c rest s in
-      due_keeps after (Target t) target.Boots l.known (λ room. boot_makes scene covered after t sound to.some room to.one) (boot_timely scene covered after t sound to.some (ticks_of rest) l.time)
+      due_keeps after (Target t) target.Boots l.known (λ room. boot_makes scene limits after t sound to.some room to.one) (boot_timely scene limits after t sound to.some (ticks_of rest) l.time)
 
   step_keeps : (c : Config) (lines : List SceneLine) → Sound scene c → Left c lines → Kept (next_by head disks c lines)
   step_keeps c [] s l = λ d e spared. absurd (cc)
   step_keeps c (Call who slot call ∷ rest) s l =
       let k = l.known.0 in
-      alive_keeps c who (client.Begins slot (with_stripes call)) rest s (rest_left c (Call who slot call) rest l) (k.asks, k.among, k.limits) (λ up. (record { one = k.one; alive = up }, k.small, k.limits))
+      alive_keeps c who (client.Begins slot (with_stripes call)) rest s (rest_left c (Call who slot call) rest l) (k.among, k.limits) (λ up. (record { one = k.one; alive = up }, k.small, k.limits))
   step_keeps c (Run ∷ rest) s l = runs_keeps c (least_unspent c.posts) rest (Run ∷ rest) (Run ∷ rest) s (rest_left c Run rest l) l l
   step_keeps c (RunSome zero ∷ rest) s l = left_moved c rest s (rest_left c (RunSome zero) rest l)
   step_keeps c (RunSome (suc k) ∷ rest) s l =
@@ -215,7 +218,7 @@ module _ (scene : Scene) (covered : IsCovered scene) (disks : Disks) where
   step_keeps c (Close t ∷ rest) s l = close_keeps c t.0 rest s (rest_left c (Close t) rest l) l.known.0
 
   -- a run goes on only where no disk has failed
-  next_keeps : (c d : Config) (failed : Bool) → (if failed then Fails else next_by head disks c c.lines) ≡ Goes d → Spared scene covered (past_of d) → Follows scene c → Follows scene d
+  next_keeps : (c d : Config) (failed : Bool) → (if failed then Fails else next_by head disks c c.lines) ≡ Goes d → Spared scene limits (past_of d) → Follows scene c → Follows scene d
   next_keeps c d true e spared f = absurd (cc)
   next_keeps c d false e spared f = step_keeps c c.lines f.sound (record { known = f.lines; time = f.time }) d e spared
 
@@ -225,9 +228,9 @@ module _ (scene : Scene) (covered : IsCovered scene) (disks : Disks) where
 
   -- ---- from the start
 
-  imports_calm : (t n : ℕ) → ImportsCalm (MayAsk scene) t (first_imports n)
-  imports_calm t zero = tt
-  imports_calm t (suc n) = (record { stands = tt; queue = tt; flights = tt }, imports_calm (suc t) n)
+  imports_calm : (n : ℕ) → Every (ImportCalm (MayAsk scene)) (first_imports n)
+  imports_calm zero = tt
+  imports_calm (suc n) = (record { stands = tt; queue = tt; flights = tt }, imports_calm n)
 
   imports_count : (n : ℕ) → length (first_imports n) ≤ n
   imports_count zero = omega arith
@@ -239,14 +242,13 @@ module _ (scene : Scene) (covered : IsCovered scene) (disks : Disks) where
       (record {
         handles = tt;
         calls = (tt, (tt, (tt, (tt, tt))));
-        imports = imports_calm 0 ((limits_of head).osts + 1);
+        imports = imports_calm ((limits_of head).osts + 1);
         targets = imports_count ((limits_of head).osts + 1);
         facts = tt;
-        store = record { held = tt; sizes = λ n i. absurd i; patches = refl };
       })
 
   first_time : Timely scene (ticks_of scene.lines) []
-  first_time quiet = by quiet.evicts
+  first_time quiet = by quiet.1.evicts
     where
       by : EvictsNone scene → IsTimely scene (ticks_of scene.lines) []
       by (inl low) = inl (omega (arith, low))
@@ -261,16 +263,16 @@ module _ (scene : Scene) (covered : IsCovered scene) (disks : Disks) where
               covered = tt;
               suits = tt;
               calm = calm_first;
-              below = λ t. record { queue = tt; few = omega arith; number = omega arith; cookie = omega arith; boot = omega arith; disk = refl };
+              below = λ t. record { queue = tt; few = omega arith; number = omega arith; cookie = omega arith; boot = omega arith; disk = refl; waiting = tt };
               ticks = λ t. omega arith;
               begun = λ call i. absurd i;
             };
-        lines = lines_known scene covered;
+        lines = lines_known scene limits;
         time = first_time;
       }
   start_follows (Some t) unfailed = absurd (cc)
 
-  leads_on : (a c : Config) → Leads head disks a c → Spared scene covered (past_of c) → Follows scene a → Follows scene c
+  leads_on : (a c : Config) → Leads head disks a c → Spared scene limits (past_of c) → Follows scene a → Follows scene c
   leads_on a _ (here _) spared f = f
   leads_on a c (more _ b _ l e) spared f = next_keeps b c (has_failed (past_of b)) e spared (leads_on a b l (inl (went_on b c (has_failed (past_of b)) e)) f)
 
@@ -285,21 +287,25 @@ module _ (scene : Scene) (covered : IsCovered scene) (disks : Disks) where
       let first = start head disks scene in
       leads_on first c l (inl unfailed) (start_follows (start_fails disks 0 (head.osts + 1)) (was_unfailed first c l unfailed))
 
-  pub starts_follow : (c : Config) → AsksNoDisk scene → Leads head disks (start head disks scene) c → start_fails disks 0 (head.osts + 1) ≡ None → Follows scene c
+  pub starts_follow : (c : Config) → IsQuiet scene → Leads head disks (start head disks scene) c → start_fails disks 0 (head.osts + 1) ≡ None → Follows scene c
   starts_follow c quiet l none =
       leads_on (start head disks scene) c l (inr quiet) (start_follows (start_fails disks 0 (head.osts + 1)) (ap (λ (o : Option ℕ). has_failed (lines_of (start_turn o))) none))
 
 -- ---- as it is stated
 
-pub scene_run : (scene : Scene) → IsCovered scene → (disks : Disks) (c : Config) → Leads (head_of scene.head) disks (start (head_of scene.head) disks scene) c → has_failed (past_of c) ≡ false
+pub scene_run : (scene : Scene) → KeepsLimits scene → (disks : Disks) (c : Config) → Leads (head_of scene.head) disks (start (head_of scene.head) disks scene) c → has_failed (past_of c) ≡ false
     → IsRun (head_of scene.head) c.turns
-scene_run scene covered disks c l unfailed = (leads_follow scene covered disks c l unfailed).sound.table.run
+scene_run scene limits disks c l unfailed = (leads_follow scene limits disks c l unfailed).sound.table.run
 
-pub scene_covered : (scene : Scene) → IsCovered scene → (disks : Disks) (c : Config) → Leads (head_of scene.head) disks (start (head_of scene.head) disks scene) c → has_failed (past_of c) ≡ false
+pub scene_covered : (scene : Scene) → KeepsLimits scene → (disks : Disks) (c : Config) → Leads (head_of scene.head) disks (start (head_of scene.head) disks scene) c → has_failed (past_of c) ≡ false
     → AllCovered (past_of c)
-scene_covered scene covered disks c l unfailed = (leads_follow scene covered disks c l unfailed).sound.covered
+scene_covered scene limits disks c l unfailed = (leads_follow scene limits disks c l unfailed).sound.covered
+
+pub scene_bare : (scene : Scene) → IsCovered scene → (disks : Disks) (c : Config) → Leads (head_of scene.head) disks (start (head_of scene.head) disks scene) c → has_failed (past_of c) ≡ false
+    → AllBare (past_of c)
+scene_bare scene covered disks c l unfailed = all_bare scene covered (past_of c) (leads_follow scene covered.limits disks c l unfailed).sound.begun
 
 -- where no start fails, and no line gives a command and no client is evicted, none does later: no turn asks a disk
 pub scene_unfailed : (scene : Scene) → IsCovered scene → AsksNoDisk scene → (disks : Disks) (c : Config) → Leads (head_of scene.head) disks (start (head_of scene.head) disks scene) c
     → start_fails disks 0 (scene.head.osts + 1) ≡ None → has_failed (past_of c) ≡ false
-scene_unfailed scene covered quiet disks c l none = covered_unfailed (past_of c) (starts_follow scene covered disks c quiet l none).sound.covered
+scene_unfailed scene covered quiet disks c l none = covered_unfailed (past_of c) (starts_follow scene covered.limits disks c (covered, quiet) l none).sound.covered

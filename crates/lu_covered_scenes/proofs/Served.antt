@@ -1,6 +1,5 @@
--- Lines of a target's row in a covered scenario: they are covered, and stand where such lines may. A target at which they stand grants no lock
--- late and asks nobody how long an object is, and it knows lives of clients of the run alone (`Quiet`). Where no turn may ask a disk, it stays
--- in its first boot, in which it serves.
+-- Lines of a target's row: they are covered, and stand where such lines may. A target at which they stand knows lives of clients of the run
+-- alone (`OfRun`). Where no turn may ask a disk, it stays in its first boot, in which it serves.
 use Rattle.std.proofs.Common.{◌≡◌, ℕ, zero, suc, ◌+◌, ◌<◌, ◌≤◌, Bool, true, false, List, [], ◌∷◌, ◌++◌, Option, Some, None, refl, sym, subst, ap, ◌∙◌, arith}
 use Rattle.std.specs.Prelude.{nat_lt, nat_eq, not, if◌then◌else◌}
 use Rattle.std.proofs.lemmas.Bool.{cond_both}
@@ -13,13 +12,13 @@ use Rattle.lu_msg.specs.declared.calls.Call.{Call as CallOf}
 use Rattle.lu_msg.specs.declared.messages.Message.{Message}
 use Rattle.lu_msg.specs.declared.messages.Message.TheVariants as message
 use Rattle.lu_words.specs.Carried.{Called}
-use Rattle.lu_words.specs.Words.{Entry, Send, Take, Tick, Begin, Life, Skip, Act, Txn, Grant, Wait, Block, Release, Commit, Evict, Joined, Crash, Boot, Back, Close, Kept, Restore, Asks, Ends, Enters, Stores, Brings, Says, Wishes, Line, line, with_turn, is_target, same_life}
+use Rattle.lu_words.specs.Words.{Entry, Fail, Stands, Send, Take, Tick, Begin, Life, Grant, Block, Release, Commit, Evict, Joined, Boot, Close, Wishes, Line, line, with_turn, is_target, same_life}
 use Rattle.lu_target_rows.specs.Disks.{calls, failing, over_disk}
 use Rattle.lu_target_rows.specs.Lives.{is_life, life_before, with_life, with_lives, without_lives}
 use Rattle.lu_target_rows.specs.Locks.{called_without}
 use Rattle.lu_target_rows.specs.States.{Setting, Target, is_serving, lives_from, after, turn, target_at}
 use Rattle.lu_target_rows.specs.Windows.{with_wish}
-use Rattle.lu_covered.specs.Covered.{IsCovered, AllCovered, IsByAct}
+use Rattle.lu_covered.specs.Covered.{IsCovered}
 use Rattle.lu_covered.specs.TargetStates.{called_at}
 use Rattle.lu_after.proofs.Disks.{failing_past}
 use Rattle.lu_after.proofs.Targets.{target_line, target_left}
@@ -66,7 +65,9 @@ IsFor clients (ToTarget t) = ⊥
 abbrev pub SendServed : Type 0 → (clients : ℕ) → Node → Message → Type 0
 SendServed MayAsk clients to (message.Up boot) = MayAsk × IsFor clients to
 SendServed MayAsk clients to (message.Reply r) = Unit {0}
+SendServed MayAsk clients to (message.Grant g) = Unit {0}
 SendServed MayAsk clients to (message.Block who boot cookie) = Unit {0}
+SendServed MayAsk clients to (message.Ask who boot cookie for_who xid) = Unit {0}
 SendServed MayAsk clients to (message.Ready who boot committed) = MayAsk
 SendServed MayAsk clients to (message.Evicted who boot) = MayAsk
 SendServed MayAsk clients to _ = ⊥
@@ -75,27 +76,17 @@ abbrev pub LineServed : Type 0 → Type 0 → (clients : ℕ) → Entry → Type
 LineServed Ticks MayAsk clients (Send to m) = SendServed MayAsk clients to m
 LineServed Ticks MayAsk clients (Take n from m) = Unit {0}
 LineServed Ticks MayAsk clients Tick = Ticks
-LineServed Ticks MayAsk clients Skip = Unit {0}
-LineServed Ticks MayAsk clients (Act d) = Unit {0}
-LineServed Ticks MayAsk clients (Txn d) = Unit {0}
-LineServed Ticks MayAsk clients (Grant lock asked) = IsByAct asked
-LineServed Ticks MayAsk clients (Block called) = Unit {0}
-LineServed Ticks MayAsk clients (Release lock) = Unit {0}
 LineServed Ticks MayAsk clients (Commit to batch) = MayAsk × AllOf clients batch.added
-LineServed Ticks MayAsk clients Crash = Unit {0}
 LineServed Ticks MayAsk clients (Boot boot disk) = MayAsk × AllOf clients disk.lives
-LineServed Ticks MayAsk clients (Stores replay) = Unit {0}
-LineServed Ticks MayAsk clients (Brings lock) = Unit {0}
-LineServed Ticks MayAsk clients (Says said) = Unit {0}
-LineServed Ticks MayAsk clients (Wishes who) = IsOf clients who
-LineServed Ticks MayAsk clients (Back who) = Unit {0}
 LineServed Ticks MayAsk clients (Close o) = MayAsk × AllOf clients o.disk.lives
-LineServed Ticks MayAsk clients (Kept number) = Unit {0}
-LineServed Ticks MayAsk clients (Restore lock) = Unit {0}
+LineServed Ticks MayAsk clients (Wishes who) = IsOf clients who
 LineServed Ticks MayAsk clients (Evict who cause) = MayAsk
 LineServed Ticks MayAsk clients (Joined who) = MayAsk
-LineServed Ticks MayAsk clients (Enters r) = Unit {0}
-LineServed Ticks MayAsk clients _ = ⊥
+LineServed Ticks MayAsk clients (Begin slot running) = ⊥
+LineServed Ticks MayAsk clients (Stands slot running) = ⊥
+LineServed Ticks MayAsk clients (Life who) = ⊥
+LineServed Ticks MayAsk clients Fail = ⊥
+LineServed Ticks MayAsk clients _ = Unit {0}
 
 abbrev pub AllServed : Type 0 → Type 0 → (clients : ℕ) → List Entry → Type 0
 AllServed Ticks MayAsk clients es = Every (LineServed Ticks MayAsk clients) es
@@ -103,49 +94,28 @@ AllServed Ticks MayAsk clients es = Every (LineServed Ticks MayAsk clients) es
 module _ (Ticks MayAsk : Type 0) (clients : ℕ) where
   -- they are covered
   line_covered : (e : Entry) → LineServed Ticks MayAsk clients e → IsCovered e
-  line_covered (Send to (message.Reply r)) s = tt
-  line_covered (Send to (message.Block who boot cookie)) s = tt
-  line_covered (Send to (message.Ready who boot committed)) s = tt
-  line_covered (Send to (message.Evicted who boot)) s = tt
-  line_covered (Send to (message.Up boot)) s = tt
-  line_covered (Take n from m) s = tt
-  line_covered Tick s = tt
-  line_covered Skip s = tt
-  line_covered (Act d) s = tt
-  line_covered (Txn d) s = tt
-  line_covered (Grant lock asked) s = s
-  line_covered (Block called) s = tt
-  line_covered (Release lock) s = tt
-  line_covered (Commit to batch) s = tt
-  line_covered Crash s = tt
-  line_covered (Boot boot disk) s = tt
-  line_covered (Stores replay) s = tt
-  line_covered (Brings lock) s = tt
-  line_covered (Says said) s = tt
-  line_covered (Wishes who) s = tt
-  line_covered (Back who) s = tt
-  line_covered (Close o) s = tt
-  line_covered (Kept number) s = tt
-  line_covered (Restore lock) s = tt
-  line_covered (Evict who cause) s = tt
-  line_covered (Joined who) s = tt
-  line_covered (Enters r) s = tt
-  line_covered e s = absurd s
+  line_covered Fail s = absurd s
+  line_covered (Stands slot running) s = absurd s
+  line_covered e s = tt
 
   pub served_covered : (es : List Entry) → AllServed Ticks MayAsk clients es → EntriesCovered es
   served_covered [] s = tt
   served_covered (e ∷ es) s = (line_covered e s.0, served_covered es s.1)
 
   -- and they stand where such lines may
+  sends_suit : (osts : ℕ) (to : Node) (m : Message) → SendServed MayAsk clients to m → Suits MayAsk osts clients (Send to m)
+  sends_suit osts (ToClient c) (message.Up boot) s = s
+  sends_suit osts (ToTarget t) (message.Up boot) s = absurd s.1
+  sends_suit osts to (message.Ready who boot committed) s = s
+  sends_suit osts to (message.Evicted who boot) s = s
+  sends_suit osts to (message.Reply r) s = tt
+  sends_suit osts to (message.Grant g) s = tt
+  sends_suit osts to (message.Block who boot cookie) s = tt
+  sends_suit osts to (message.Ask who boot cookie for_who xid) s = tt
+  sends_suit osts to m s = absurd s
+
   line_suits : (osts : ℕ) (e : Entry) → LineServed Ticks MayAsk clients e → Suits MayAsk osts clients e
-  line_suits osts (Send (ToTarget t) (message.Request r)) s = absurd s
-  line_suits osts (Send (ToTarget t) (message.Join who boot)) s = absurd s
-  line_suits osts (Send (ToTarget t) (message.Replay r)) s = absurd s
-  line_suits osts (Send (ToTarget t) (message.Lock r)) s = absurd s
-  line_suits osts (Send (ToTarget t) (message.Word who boot replays locks seen)) s = absurd s
-  line_suits osts (Send (ToClient c) (message.Up boot)) s = s
-  line_suits osts (Send to (message.Ready who boot committed)) s = s
-  line_suits osts (Send to (message.Evicted who boot)) s = s
+  line_suits osts (Send to m) s = sends_suit osts to m s
   line_suits osts (Life who) s = absurd s
   line_suits osts (Commit to batch) s = s
   line_suits osts (Boot boot disk) s = s
@@ -193,49 +163,38 @@ over_unfailed (Some n) at past es unfailed = by (nat_lt n (calls es)) refl
     by true e = let low : n < calls es = grind (arith, nat_tests) in let failed = failing_fails at es n past low in absurd (cc)
     by false e = failing_past es n (grind (arith, nat_tests))
 
--- ---- a target at which no lock waits, and nobody is asked how long an object is; it knows lives of clients of the run alone
+-- ---- a target knows lives of clients of the run alone
 
-pub record Quiet (clients : ℕ) (v : Target) : Type 0 where
-  pub glimpses : v.glimpses ≡ []
-  pub waiting : v.waiting ≡ []
+pub record OfRun (clients : ℕ) (v : Target) : Type 0 where
   pub lives : AllOf clients v.lives
   pub disk : AllOf clients v.disk.lives
   pub wishes : AllOf clients v.wishes
 
-quiet_line : (MayAsk : Type 0) (osts clients : ℕ) (v : Target) (e : Entry) → Suits MayAsk osts clients e → IsCovered e → Quiet clients v → Quiet clients (after v e)
-quiet_line MayAsk osts clients v (Commit to batch) suits c s =
+of_run_line : (MayAsk : Type 0) (osts clients : ℕ) (v : Target) (e : Entry) → Suits MayAsk osts clients e → OfRun clients v → OfRun clients (after v e)
+of_run_line MayAsk osts clients v (Commit to batch) suits s =
     record {
-      glimpses = rw s.glimpses refl;
-      waiting = rw s.waiting refl;
       lives = of_each clients batch.added (without_lives batch.removed v.lives) suits.1 (of_left clients batch.removed v.lives s.lives);
       disk = of_each clients batch.added (without_lives batch.removed v.disk.lives) suits.1 (of_left clients batch.removed v.disk.lives s.disk);
       wishes = s.wishes;
     }
-quiet_line MayAsk osts clients v (Grant lock asked) suits c s = record { glimpses = s.glimpses; waiting = rw s.waiting refl; lives = s.lives; disk = s.disk; wishes = s.wishes }
-quiet_line MayAsk osts clients v (Boot boot disk) suits c s = record { glimpses = s.glimpses; waiting = s.waiting; lives = suits.1; disk = suits.1; wishes = tt }
-quiet_line MayAsk osts clients v (Close o) suits c s = record { glimpses = refl; waiting = refl; lives = suits.1; disk = s.disk; wishes = tt }
-quiet_line MayAsk osts clients v (Wishes who) suits c s =
-    record { glimpses = s.glimpses; waiting = s.waiting; lives = s.lives; disk = s.disk; wishes = of_wish clients who v.wishes suits s.wishes }
-quiet_line MayAsk osts clients v (Asks g) suits c s = absurd c
-quiet_line MayAsk osts clients v (Ends g) suits c s = absurd c
-quiet_line MayAsk osts clients v (Wait lock asked) suits c s = absurd c
-quiet_line MayAsk osts clients v e suits c s = record { glimpses = s.glimpses; waiting = s.waiting; lives = s.lives; disk = s.disk; wishes = s.wishes }
+of_run_line MayAsk osts clients v (Boot boot disk) suits s = record { lives = suits.1; disk = suits.1; wishes = tt }
+of_run_line MayAsk osts clients v (Close o) suits s = record { lives = suits.1; disk = s.disk; wishes = tt }
+of_run_line MayAsk osts clients v (Wishes who) suits s = record { lives = s.lives; disk = s.disk; wishes = of_wish clients who v.wishes suits s.wishes }
+of_run_line MayAsk osts clients v e suits s = record { lives = s.lives; disk = s.disk; wishes = s.wishes }
 
-pub quiet_turn : (Ticks MayAsk : Type 0) (clients : ℕ) (v : Target) (es : List Entry) → AllServed Ticks MayAsk clients es → Quiet clients v → Quiet clients (turn v es)
-quiet_turn Ticks MayAsk clients v [] all s = s
-quiet_turn Ticks MayAsk clients v (e ∷ es) all s =
-    quiet_turn Ticks MayAsk clients (after v e) es all.1
-    (quiet_line MayAsk 0 clients v e (line_suits Ticks MayAsk clients 0 e all.0) (line_covered Ticks MayAsk clients e all.0) s)
+pub of_run_turn : (Ticks MayAsk : Type 0) (clients : ℕ) (v : Target) (es : List Entry) → AllServed Ticks MayAsk clients es → OfRun clients v → OfRun clients (turn v es)
+of_run_turn Ticks MayAsk clients v [] all s = s
+of_run_turn Ticks MayAsk clients v (e ∷ es) all s = of_run_turn Ticks MayAsk clients (after v e) es all.1 (of_run_line MayAsk 0 clients v e (line_suits Ticks MayAsk clients 0 e all.0) s)
 
-pub stays_quiet : (MayAsk : Type 0) (osts : ℕ) (setting : Setting) (clients : ℕ) (past : List Line) → AllSuit MayAsk osts clients past → AllCovered past → Quiet clients (target_at setting clients past)
-stays_quiet MayAsk osts setting clients [] suits c =
+pub stays_of_run : (MayAsk : Type 0) (osts : ℕ) (setting : Setting) (clients : ℕ) (past : List Line) → AllSuit MayAsk osts clients past → OfRun clients (target_at setting clients past)
+stays_of_run MayAsk osts setting clients [] suits =
     let first : AllOf clients (lives_from 0 clients) = of_first clients 0 clients (omega arith) in
-    record { glimpses = refl; waiting = refl; lives = first; disk = of_each clients (lives_from 0 clients) [] first tt; wishes = tt }
-stays_quiet MayAsk osts setting clients (l ∷ past) suits c = by (is_target setting.id l.at.node) refl (stays_quiet MayAsk osts setting clients past suits.1 c.1)
+    record { lives = first; disk = of_each clients (lives_from 0 clients) [] first tt; wishes = tt }
+stays_of_run MayAsk osts setting clients (l ∷ past) suits = by (is_target setting.id l.at.node) refl (stays_of_run MayAsk osts setting clients past suits.1)
   where
-    by : (b : Bool) → is_target setting.id l.at.node ≡ b → Quiet clients (target_at setting clients past) → Quiet clients (target_at setting clients (l ∷ past))
-    by true mine s = subst (Quiet clients) (sym (target_line setting clients past l.at l.entry mine)) (quiet_line MayAsk osts clients (target_at setting clients past) l.entry suits.0 c.0 s)
-    by false other s = subst (Quiet clients) (sym (target_left setting clients past l.at l.entry other)) s
+    by : (b : Bool) → is_target setting.id l.at.node ≡ b → OfRun clients (target_at setting clients past) → OfRun clients (target_at setting clients (l ∷ past))
+    by true mine s = subst (OfRun clients) (sym (target_line setting clients past l.at l.entry mine)) (of_run_line MayAsk osts clients (target_at setting clients past) l.entry suits.0 s)
+    by false other s = subst (OfRun clients) (sym (target_left setting clients past l.at l.entry other)) s
 
 -- ---- where no turn may ask a disk
 

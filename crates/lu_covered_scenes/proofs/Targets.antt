@@ -1,7 +1,7 @@
--- A target's row in a covered scenario, for messages, ticks and commands: all its lines are covered, and none but a tick counts one. It asks a
+-- A target's row, for messages, ticks and commands: all its lines are covered, and none but a tick counts one. It asks a
 -- disk for a command, for what a life that joins or comes back tells it, and for a tick of which a lock that was called back expires. Where it
 -- is down it passes all over.
-use Rattle.std.proofs.Common.{◌≡◌, ℕ, zero, suc, ◌+◌, ◌<◌, ◌≤◌, Bool, true, false, List, [], ◌∷◌, ◌++◌, Option, Some, None, ◌⊎◌, inl, inr, refl, sym, subst, ap, ◌∙◌, arith}
+use Rattle.std.proofs.Common.{◌≡◌, ℕ, zero, suc, ◌+◌, ◌<◌, ◌≤◌, Bool, true, false, List, [], ◌∷◌, ◌++◌, Option, Some, None, refl, ap, ◌∙◌, arith}
 use Rattle.std.specs.Prelude.{nat_eq, nat_le, nat_lt, not, ◌&&◌, ◌||◌, if◌then◌else◌, length}
 use Rattle.std.specs.List.{list_any}
 use Rattle.std.proofs.lemmas.Bool.{cond_both}
@@ -13,34 +13,38 @@ use Rattle.lu_base.specs.declared.locks.Cause.{Cause}
 use Rattle.lu_base.specs.declared.locks.Cause.TheVariants.{Expired, Replaced}
 use Rattle.lu_base.specs.declared.locks.Extent.{Extent}
 use Rattle.lu_base.specs.declared.locks.Lock.{Lock}
-use Rattle.lu_base.specs.declared.locks.Mode.TheVariants.{PR}
+use Rattle.lu_base.specs.declared.locks.Mode.TheVariants.{PR, PW}
 use Rattle.lu_base.specs.declared.locks.Resource.{Resource}
+use Rattle.lu_lock.specs.Growth.{the_end}
+use Rattle.lu_lock.specs.Modes.{serves}
+use Rattle.lu_lock.specs.Overlap.{extents_meet}
+use Rattle.lu_machine.specs.Objects.{content, page_extent}
+use Rattle.lu_msg.specs.declared.answers.Answer.TheVariants as told
 use Rattle.lu_msg.specs.declared.messages.Message.{Message}
+use Rattle.lu_msg.specs.declared.messages.SizeReport.{SizeReport}
 use Rattle.lu_msg.specs.declared.messages.Message.TheVariants as message
 use Rattle.lu_msg.specs.declared.messages.Reply.{Reply as ReplyTo}
 use Rattle.lu_msg.specs.declared.messages.Request.{Request as RequestOf}
 use Rattle.lu_msg.specs.declared.operations.Op.{Op}
 use Rattle.lu_msg.specs.declared.operations.Op.TheVariants as op
 use Rattle.lu_words.specs.Carried.{Deed, Called, Glimpse, Slot, Said}
-use Rattle.lu_words.specs.Words.{Entry, Tick, Skip, Block, Release, Evict, Joined, Crash, Enters}
-use Rattle.lu_target_rows.specs.Glimpses.{glimpses_of, glimpses_end, highest, row_size}
-use Rattle.lu_target_rows.specs.Leaving.{commits, evicted, ready, all_released, locks_of, evictions, all_go, is_due, condemned, expels, block_again, sends_again, ticked, row_tick, life_of, admits, row_admits, by_life, is_over, row_join}
+use Rattle.lu_words.specs.Words.{Entry, Tick, Skip, Wait, Block, Evict, Joined, Crash, Enters}
+use Rattle.lu_target_rows.specs.Glimpses.{answered, row_sizes, row_answers, row_locked, highest, ask_of, row_asks, row_size, asked_for, row_holder, row_report, glimpses_of, glimpses_end}
+use Rattle.lu_target_rows.specs.Leaving.{commits, evicted, ready, all_released, locks_of, evictions, all_go, is_due, condemned, expels, block_again, asks_again, sends_again, ticked, row_tick, life_of, admits, row_admits, by_life, is_over, row_join}
 use Rattle.lu_target_rows.specs.Lives.{is_life, with_life, slot_in}
 use Rattle.lu_target_rows.specs.Names.{does_change, is_read, is_ready, written_by, in_way, grant_lines, row_executes, row_waits, row_pass, row_sweep, names_go}
-use Rattle.lu_target_rows.specs.Objects.{lock_of, lock_for, row_granted, row_waiting, row_enqueue, objects_go}
-use Rattle.lu_target_rows.specs.Queues.{has_to_wait, grown, blocks_go, grants_go, queue_goes, queues_go, resources_of, all_queues_go}
+use Rattle.lu_target_rows.specs.Locks.{same_glimpse}
+use Rattle.lu_target_rows.specs.Objects.{lock_of, lock_for, row_granted, row_waiting, row_enqueue, row_uncovered, row_get, lies_in, written, row_written, row_write, put_extent, cut_extent, objects_go}
+use Rattle.lu_target_rows.specs.Queues.{object, size_of, extent_of, conflicting, blocks_go, grant_message, has_to_wait, grown, grant_entries, grants_go, queue_goes, queues_go, resources_of, all_queues_go}
 use Rattle.lu_target_rows.specs.Recovery.{row_replay, row_lock, row_word, row_wish, row_boot, row_close}
 use Rattle.lu_target_rows.specs.Replies.{is_called, called, block_of, blocks, replies, row_kept, locks_on}
-use Rattle.lu_target_rows.specs.Requests.{goes, by_number, by_slot as slot_of_request, row_request, releases, goes_on, row_cancels, row_cancel}
+use Rattle.lu_target_rows.specs.Requests.{goes, by_number, by_slot as slot_of_request, row_request, releases, goes_on, row_cancels, row_cancel, row_finds, row_where}
 use Rattle.lu_target_rows.specs.Rows.{by_boot, by_slot, heeds, while_serving, while_recovering, of_boot, lock_again, row_heeds, first_deeds, row_commits, row_commit, row_closes}
 use Rattle.lu_target_rows.specs.Rows as target
 use Rattle.lu_target_rows.specs.States.{Target, is_names, is_serving, after, turn, follow}
-use Rattle.lu_lawful.proofs.ClientLines.{IsSize, IsLock}
-use Rattle.lu_lawful.proofs.TargetReads.{clear}
-use Rattle.lu_lawful.proofs.TargetSizes.{AllRead, none_highest, reads_on}
 use Rattle.lu_covered_scenes.proofs.Every.{every_more, every_so}
 use Rattle.lu_covered_scenes.proofs.Asking.{IsOf}
-use Rattle.lu_covered_scenes.proofs.Served.{LineServed, AllServed, Quiet, quiet_turn, served_still}
+use Rattle.lu_covered_scenes.proofs.Served.{LineServed, AllServed, OfRun, of_run_turn, served_still}
 use Rattle.lu_covered_scenes.proofs.Windows.{AllBack, back_served, close_back, replay_back, lock_back, word_back, wish_back, boot_served}
 
 -- ---- what comes
@@ -51,43 +55,17 @@ pub record Spoken (MayAsk : Type 0) (clients : ℕ) (v : Target) (who : Who) (bo
   pub older : nat_lt boot v.boot ≡ true → MayAsk
   pub without : is_life who v.lives ≡ false → MayAsk
 
--- what the metadata target may be asked; and another one, which has granted locks for reading alone: how long an object is, or such a lock
-abbrev pub MayBeAsked : Target → Op → Type 0
-MayBeAsked v o = (v.setting.id ≡ 0) ⊎ ((0 < v.setting.id) × (IsSize o ⊎ IsLock o) × AllRead v.granted)
-
--- which messages may come: requests, and locks that are given back; the others, where a turn may ask a disk
+-- which messages may come: requests, and what is said of locks; the others, where a turn may ask a disk
 abbrev pub MessageServed : Type 0 → (clients : ℕ) → Target → Message → Type 0
-MessageServed MayAsk clients v (message.Request r) = MayBeAsked v r.op × Spoken MayAsk clients v r.who r.boot
+MessageServed MayAsk clients v (message.Request r) = Spoken MayAsk clients v r.who r.boot
 MessageServed MayAsk clients v (message.Cancel who boot cookie) = Spoken MayAsk clients v who boot
+MessageServed MayAsk clients v (message.Where who boot cookie) = Spoken MayAsk clients v who boot
+MessageServed MayAsk clients v (message.Size m) = Spoken MayAsk clients v m.who m.boot
 MessageServed MayAsk clients v (message.Join who boot) = MayAsk × IsOf clients who
 MessageServed MayAsk clients v (message.Replay r) = MayAsk × IsOf clients r.who
 MessageServed MayAsk clients v (message.Lock r) = MayAsk × IsOf clients r.who
 MessageServed MayAsk clients v (message.Word who boot replays locks seen) = MayAsk × IsOf clients who
 MessageServed MayAsk clients v _ = ⊥
-
--- ---- a target at which no lock waits, and whose granted locks are for reading alone
-
--- no write lock is granted
-pub none_written : (resource : Resource) (v : Target) → AllRead v.granted → highest (locks_on resource v.granted) ≡ None
-none_written resource v reads = none_highest (locks_on resource v.granted) (reads_on resource v.granted reads)
-
--- so one for reading needn't wait
-pub no_wait : (v : Target) (l : Lock) → l.ask.mode ≡ PR → v.waiting ≡ [] → AllRead v.granted → has_to_wait v (locks_on l.resource v.waiting) l ≡ false
-no_wait v l is none reads =
-    ap (λ (ls : List Lock). has_to_wait v (locks_on l.resource ls) l) none
-    ∙ ap (λ (b : Bool). b || false) (clear l.ask (locks_on l.resource v.granted) is (reads_on l.resource v.granted reads))
-
--- it is granted at once
-pub locks_now : (v : Target) (at : At) (r : RequestOf) (resource : Resource) (extent : Extent) → v.waiting ≡ [] → AllRead v.granted
-    → row_enqueue v at r (lock_for v r resource PR extent) ≡ row_granted v at r (grown v (locks_on resource v.waiting) (lock_for v r resource PR extent))
-locks_now v at r resource extent none reads =
-    let l : Lock = lock_for v r resource PR extent in
-    ap (λ (b : Bool). if b then row_waiting v at r l else row_granted v at r (grown v (locks_on resource v.waiting) l)) (no_wait v l refl none reads)
-
--- and no queue goes on
-pub queue_none : (resource : Resource) (v : Target) → v.waiting ≡ [] → queue_goes resource v ≡ []
-queue_none resource v none =
-    ap (λ (ls : List Lock). follow v (grants_go [] (locks_on resource ls) v) (λ w. blocks_go (locks_on resource w.waiting) w)) none ∙ ap (λ (ls : List Lock). blocks_go (locks_on resource ls) v) none
 
 -- ---- requests that wait go on
 
@@ -96,8 +74,8 @@ module _ (MayAsk : Type 0) (clients : ℕ) where
   All es = AllServed ⊥ MayAsk clients es
 
   -- these lines, and then those of the target as they left it
-  follow_served : (es : List Entry) (next : Target → List Entry) (v : Target) → Quiet clients v → All es → ((w : Target) → Quiet clients w → All (next w)) → All (follow v es next)
-  follow_served es next v s all more = every_more (LineServed ⊥ MayAsk clients) es (next (turn v es)) all (more (turn v es) (quiet_turn ⊥ MayAsk clients v es all s))
+  follow_served : (es : List Entry) (next : Target → List Entry) (v : Target) → OfRun clients v → All es → ((w : Target) → OfRun clients w → All (next w)) → All (follow v es next)
+  follow_served es next v s all more = every_more (LineServed ⊥ MayAsk clients) es (next (turn v es)) all (more (turn v es) (of_run_turn ⊥ MayAsk clients v es all s))
 
   grants_served : (d : Deed) (locks : List Lock) → All (grant_lines d locks ++ replies d ∷ [])
   grants_served d [] = (tt, tt)
@@ -131,65 +109,120 @@ module _ (MayAsk : Type 0) (clients : ℕ) where
   pub names_served : (at : At) (v : Target) → All (names_go at v)
   names_served at v = sweep_served (length v.queue + 1) at v
 
-  -- a target that has granted locks for reading alone tells the size itself, and grants another one
-  objects_served : (at : At) (v : Target) (r : RequestOf) (o : Op) → IsSize o ⊎ IsLock o → v.waiting ≡ [] → AllRead v.granted → All (objects_go v at r o)
-  objects_served at v r (op.Size resource) is none reads = subst (λ (o : Option Lock). All (row_size v at r resource o)) (sym (none_written resource v reads)) (tt, (tt, tt))
-  objects_served at v r (op.Enqueue resource PR extent) is none reads = subst All (sym (locks_now v at r resource extent none reads)) (tt, (tt, tt))
-  objects_served at v r o (inl is) none reads = absurd is
-  objects_served at v r o (inr is) none reads = absurd is
+  -- ---- locks on objects
+
+  blocks_go_served : (waiting : List Lock) (v : Target) → All (blocks_go waiting v)
+  blocks_go_served [] v = tt
+  blocks_go_served (l ∷ waiting) v =
+      every_more (LineServed ⊥ MayAsk clients) (blocks v (conflicting v l)) (blocks_go waiting (turn v (blocks v (conflicting v l)))) (blocks_served v (conflicting v l)) (blocks_go_served waiting (turn v (blocks v (conflicting v l))))
+
+  grants_go_served : (ahead later : List Lock) (v : Target) → All (grants_go ahead later v)
+  grants_go_served ahead [] v = tt
+  grants_go_served ahead (l ∷ later) v =
+      let granted : List Entry = grant_entries v (grown v (ahead ++ later) l) in
+      cond_both (has_to_wait v ahead l) (grants_go (ahead ++ l ∷ []) later v) (follow v granted (grants_go ahead later)) All (λ t. grants_go_served (ahead ++ l ∷ []) later v)
+      (λ t. every_more (LineServed ⊥ MayAsk clients) granted (grants_go ahead later (turn v granted)) (tt, (tt, tt)) (grants_go_served ahead later (turn v granted)))
+
+  pub queue_served : (r : Resource) (v : Target) → All (queue_goes r v)
+  queue_served r v =
+      let granted : List Entry = grants_go [] (locks_on r v.waiting) v in
+      let w : Target = turn v granted in
+      every_more (LineServed ⊥ MayAsk clients) granted (blocks_go (locks_on r w.waiting) w) (grants_go_served [] (locks_on r v.waiting) v) (blocks_go_served (locks_on r w.waiting) w)
+
+  queues_served : (rs : List Resource) (v : Target) → All (queues_go rs v)
+  queues_served [] v = tt
+  queues_served (r ∷ rs) v = every_more (LineServed ⊥ MayAsk clients) (queue_goes r v) (queues_go rs (turn v (queue_goes r v))) (queue_served r v) (queues_served rs (turn v (queue_goes r v)))
+
+  enqueue_served : (v : Target) (at : At) (r : RequestOf) (l : Lock) → All (row_enqueue v at r l)
+  enqueue_served v at r l =
+      let waiting : List Lock = locks_on l.resource v.waiting in
+      cond_both (has_to_wait v waiting l) (row_waiting v at r l) (row_granted v at r (grown v waiting l)) All
+      (λ t.
+      let es : List Entry = Wait l (answered v at r (told.Waiting l.cookie)) ∷ replies (answered v at r (told.Waiting l.cookie)) ∷ [] in
+      let w : Target = turn v es in
+      every_more (LineServed ⊥ MayAsk clients) es (blocks_go (locks_on l.resource w.waiting) w) (tt, (tt, tt)) (blocks_go_served (locks_on l.resource w.waiting) w))
+      (λ t. (tt, (tt, tt)))
+
+  -- ---- bytes, and sizes
+
+  get_served : (v : Target) (at : At) (r : RequestOf) (resource : Resource) (page : ℕ) (o : Option Lock) → All (row_get v at r resource page o)
+  get_served v at r resource page None = (tt, (tt, tt))
+  get_served v at r resource page (Some l) =
+      cond_both (serves l.ask.mode PR && extents_meet (extent_of l) (page_extent page)) (row_answers (answered v at r (told.Content (content page (extent_of l) (object v resource))))) (row_uncovered v at r) All
+      (λ t. (tt, (tt, tt))) (λ t. (tt, (tt, tt)))
+
+  write_served : (v : Target) (at : At) (r : RequestOf) (extent : Extent) (o : Option Lock) → All (row_write v at r extent o)
+  write_served v at r extent None = (tt, (tt, tt))
+  write_served v at r extent (Some l) =
+      cond_both (serves l.ask.mode PW && lies_in extent (extent_of l)) (row_written (written v at r)) (row_uncovered v at r) All (λ t. (tt, (tt, tt))) (λ t. (tt, (tt, tt)))
+
+  size_served : (v : Target) (at : At) (r : RequestOf) (resource : Resource) (o : Option Lock) → All (row_size v at r resource o)
+  size_served v at r resource None = (tt, (tt, tt))
+  size_served v at r resource (Some l) =
+      let sizes : List Entry = row_sizes (answered v at r (told.Size (size_of v resource))) in
+      cond_both (nat_eq (extent_of l).last the_end) (row_asks v r resource l) (if nat_lt (extent_of l).last (size_of v resource) then sizes else row_locked v at r) All (λ t. (tt, (tt, tt)))
+      (λ t. cond_both (nat_lt (extent_of l).last (size_of v resource)) sizes (row_locked v at r) All (λ b. (tt, (tt, tt))) (λ b. (tt, (tt, tt))))
+
+  objects_served : (at : At) (v : Target) (r : RequestOf) (o : Op) → All (objects_go v at r o)
+  objects_served at v r (op.Enqueue resource mode extent) = enqueue_served v at r (lock_for v r resource mode extent)
+  objects_served at v r (op.Get resource cookie page) = get_served v at r resource page (lock_of r.who cookie (locks_on resource v.granted))
+  objects_served at v r (op.Put resource cookie offset bytes) = write_served v at r (put_extent offset bytes) (lock_of r.who cookie (locks_on resource v.granted))
+  objects_served at v r (op.Cut resource cookie size) = write_served v at r (cut_extent size) (lock_of r.who cookie (locks_on resource v.granted))
+  objects_served at v r (op.Size resource) = size_served v at r resource (highest (locks_on resource v.granted))
+  objects_served at v r o = tt
 
   -- a request goes on
-  goes_served : (at : At) (v : Target) (r : RequestOf) → Quiet clients v → MayBeAsked v r.op → All (goes at r v)
-  goes_served at v r s (inl names) = subst (λ (n : ℕ). All (if nat_eq n 0 then names_go at v else objects_go v at r r.op)) (sym names) (names_served at v)
-  goes_served at v r s (inr is) =
-      let high = is.0 in
-      let other : nat_eq v.setting.id 0 ≡ false = grind (arith, nat_tests) in
-      subst (λ (b : Bool). All (if b then names_go at v else objects_go v at r r.op)) (sym other) (objects_served at v r r.op is.1 s.waiting is.2)
+  goes_served : (at : At) (v : Target) (r : RequestOf) → All (goes at r v)
+  goes_served at v r = cond_both (is_names v) (names_go at v) (objects_go v at r r.op) All (λ t. names_served at v) (λ t. objects_served at v r r.op)
 
-  -- what waited goes on: no lock waits in a queue
-  pub all_go_served : (at : At) (v : Target) → Quiet clients v → All (all_go at v)
-  all_go_served at v s =
-      cond_both (is_names v) (names_go at v) (all_queues_go v) All (λ t. names_served at v) (λ t. subst (λ (locks : List Lock). All (queues_go (resources_of locks) v)) (sym s.waiting) tt)
+  -- what waited goes on
+  pub all_go_served : (at : At) (v : Target) → All (all_go at v)
+  all_go_served at v = cond_both (is_names v) (names_go at v) (all_queues_go v) All (λ t. names_served at v) (λ t. queues_served (resources_of v.waiting) v)
 
   -- ---- lives that leave and lives that come
 
-  -- nobody is asked how long an object is
-  pub releases_served : (at : At) (l : Lock) (v : Target) → Quiet clients v → All (releases at l v)
-  releases_served at l v s = subst (λ (gs : List Glimpse). All (Release l ∷ glimpses_end at (glimpses_of l gs) v)) (sym s.glimpses) (tt, tt)
+  -- those who asked a holder are told to take a lock
+  glimpses_served : (at : At) (gs : List Glimpse) (v : Target) → All (glimpses_end at gs v)
+  glimpses_served at [] v = tt
+  glimpses_served at (g ∷ gs) v = (tt, (tt, (tt, glimpses_served at gs v)))
 
-  pub released_served : (at : At) (locks : List Lock) (v : Target) → Quiet clients v → All (all_released at locks v)
-  released_served at [] v s = tt
-  released_served at (l ∷ locks) v s = follow_served (releases at l v) (all_released at locks) v s (releases_served at l v s) (λ w r. released_served at locks w r)
+  pub releases_served : (at : At) (l : Lock) (v : Target) → All (releases at l v)
+  releases_served at l v = (tt, glimpses_served at (glimpses_of l v.glimpses) v)
 
-  pub evictions_served : (at : At) (cause : Cause) (granted : List Lock) (gone : List Who) (v : Target) → MayAsk → Quiet clients v → All (evictions at cause granted gone v)
+  pub released_served : (at : At) (locks : List Lock) (v : Target) → All (all_released at locks v)
+  released_served at [] v = tt
+  released_served at (l ∷ locks) v =
+      every_more (LineServed ⊥ MayAsk clients) (releases at l v) (all_released at locks (turn v (releases at l v))) (releases_served at l v) (released_served at locks (turn v (releases at l v)))
+
+  pub evictions_served : (at : At) (cause : Cause) (granted : List Lock) (gone : List Who) (v : Target) → MayAsk → OfRun clients v → All (evictions at cause granted gone v)
   evictions_served at cause granted [] v may s = tt
   evictions_served at cause granted (who ∷ gone) v may s =
       follow_served (Evict who cause ∷ evicted v who ∷ all_released at (locks_of who granted) v) (evictions at cause granted gone) v s
-      (may, (may, released_served at (locks_of who granted) v s)) (λ w r. evictions_served at cause granted gone w may r)
+      (may, (may, released_served at (locks_of who granted) v)) (λ w r. evictions_served at cause granted gone w may r)
 
   -- the locks that were called back too long ago
-  pub expels_served : (at : At) (gone : List Who) (v : Target) → ((who : Who) (more : List Who) → gone ≡ who ∷ more → MayAsk) → Quiet clients v → All (expels at gone v)
+  pub expels_served : (at : At) (gone : List Who) (v : Target) → ((who : Who) (more : List Who) → gone ≡ who ∷ more → MayAsk) → OfRun clients v → All (expels at gone v)
   expels_served at [] v may s = tt
   expels_served at (who ∷ gone) v may s =
       let asks = may who gone refl in
       follow_served (commits v v.log (who ∷ gone) [] ∷ []) (λ w. follow w (evictions at Expired v.granted (who ∷ gone) w) (all_go at)) v s ((asks, tt), tt)
-      (λ w r. follow_served (evictions at Expired v.granted (who ∷ gone) w) (all_go at) w r (evictions_served at Expired v.granted (who ∷ gone) w asks r) (λ x q. all_go_served at x q))
+      (λ w r. follow_served (evictions at Expired v.granted (who ∷ gone) w) (all_go at) w r (evictions_served at Expired v.granted (who ∷ gone) w asks r) (λ x q. all_go_served at x))
 
-  pub admits_served : (at : At) (who : Who) (v : Target) → MayAsk → Quiet clients v → All (admits at who v)
-  admits_served at who v may s = follow_served (Joined who ∷ ready v who ∷ []) (all_go at) v s (may, (may, tt)) (λ w r. all_go_served at w r)
+  pub admits_served : (at : At) (who : Who) (v : Target) → MayAsk → OfRun clients v → All (admits at who v)
+  admits_served at who v may s = follow_served (Joined who ∷ ready v who ∷ []) (all_go at) v s (may, (may, tt)) (λ w r. all_go_served at w)
 
-  life_admitted : (at : At) (old : List Who) (who : Who) (v : Target) → MayAsk → IsOf clients who → Quiet clients v → All (row_admits at old who v)
+  life_admitted : (at : At) (old : List Who) (who : Who) (v : Target) → MayAsk → IsOf clients who → OfRun clients v → All (row_admits at old who v)
   life_admitted at old who v may one s =
       follow_served (commits v v.log old (who ∷ []) ∷ []) (λ w. follow w (evictions at Replaced v.granted old w) (admits at who)) v s ((may, (one, tt)), tt)
       (λ w r. follow_served (evictions at Replaced v.granted old w) (admits at who) w r (evictions_served at Replaced v.granted old w may r) (λ x q. admits_served at who x may q))
 
-  by_life_served : (at : At) (who : Who) (v : Target) (o : Option Who) → MayAsk → IsOf clients who → Quiet clients v → All (by_life v at who o)
+  by_life_served : (at : At) (who : Who) (v : Target) (o : Option Who) → MayAsk → IsOf clients who → OfRun clients v → All (by_life v at who o)
   by_life_served at who v None may one s = life_admitted at [] who v may one s
   by_life_served at who v (Some old) may one s =
       cond_both (nat_lt who.life old.life) (evicted v who ∷ []) (if nat_eq who.life old.life then ready v who ∷ [] else row_admits at (old ∷ []) who v) All (λ t. (may, tt))
       (λ t. cond_both (nat_eq who.life old.life) (ready v who ∷ []) (row_admits at (old ∷ []) who v) All (λ b. (may, tt)) (λ b. life_admitted at (old ∷ []) who v may one s))
 
-  join_served : (at : At) (who : Who) (v : Target) → MayAsk → IsOf clients who → Quiet clients v → All (row_join v at who)
+  join_served : (at : At) (who : Who) (v : Target) → MayAsk → IsOf clients who → OfRun clients v → All (row_join v at who)
   join_served at who v may one s =
       cond_both (list_any (is_over who) v.removed) (evicted v who ∷ []) (by_life v at who (life_of who.client v.lives)) All (λ t. (may, tt))
       (λ t. by_life_served at who v (life_of who.client v.lives) may one s)
@@ -200,7 +233,7 @@ module _ (MayAsk : Type 0) (clients : ℕ) where
   kept_served v None = tt
   kept_served v (Some k) = (tt, tt)
 
-  module _ (v : Target) (s : Quiet clients v) where
+  module _ (v : Target) (s : OfRun clients v) where
     -- where a turn may ask a disk, of an older boot, and of a life without a slot
     slot_served : (who : Who) (rest : List Entry) (has : Bool) → is_life who v.lives ≡ has → (is_life who v.lives ≡ false → MayAsk) → All rest → All (by_slot v who has rest)
     slot_served who rest true e may all = all
@@ -231,11 +264,11 @@ module _ (MayAsk : Type 0) (clients : ℕ) where
         cond_both (is_serving v) (row_join v at who) (row_wish v at who) All (λ t. join_served at who v may one s)
         (λ t. back_served clients ⊥ MayAsk may (row_wish v at who) (wish_back clients v at who s one))
 
-    request_served : (at : At) (r : RequestOf) → MayBeAsked v r.op → All (row_request v at r)
-    request_served at r asked = by (slot_in v.slots r.who r.tag)
+    request_served : (at : At) (r : RequestOf) → All (row_request v at r)
+    request_served at r = by (slot_in v.slots r.who r.tag)
       where
         number : (k : Option ReplyTo) (above same : Bool) → All (by_number v at r k above same)
-        number k true same = (tt, goes_served at (after v (Enters r)) r (quiet_turn ⊥ MayAsk clients v (Enters r ∷ []) (tt, tt) s) asked)
+        number k true same = (tt, goes_served at (after v (Enters r)) r)
         number k false true = kept_served v k
         number k false false = tt
 
@@ -245,10 +278,24 @@ module _ (MayAsk : Type 0) (clients : ℕ) where
     cancels_served : (at : At) (o : Option Lock) → All (row_cancels v at o)
     cancels_served at None = tt
     cancels_served at (Some l) =
-        follow_served (releases at l v) (goes_on l at) v s (releases_served at l v s)
-        (λ w q. cond_both (is_names w) (names_go at w) (queue_goes l.resource w) All (λ t. names_served at w) (λ t. subst All (sym (queue_none l.resource w q.waiting)) tt))
+        follow_served (releases at l v) (goes_on l at) v s (releases_served at l v)
+        (λ w q. cond_both (is_names w) (names_go at w) (queue_goes l.resource w) All (λ t. names_served at w) (λ t. queue_served l.resource w))
 
-pub comes_served : (MayAsk : Type 0) (clients : ℕ) (v : Target) (at : At) (n : ℕ) (from : Node) (m : Message) → Quiet clients v → MessageServed MayAsk clients v m → AllServed ⊥ MayAsk clients (target.row v at (target.Comes n from m))
+    -- a granted lock is told of once more
+    finds_served : (o : Option Lock) → All (row_finds v o)
+    finds_served None = tt
+    finds_served (Some l) = cond_both (is_names v) [] (grant_message v l ∷ []) All (λ t. tt) (λ t. (tt, tt))
+
+    -- a holder told how long an object is
+    holder_served : (at : At) (m : SizeReport) (g : Glimpse) (o : Option ℕ) → All (row_holder v at m g o)
+    holder_served at m g None = (tt, (tt, (tt, tt)))
+    holder_served at m g (Some size) = (tt, (tt, (tt, tt)))
+
+    report_served : (at : At) (m : SizeReport) (o : Option Glimpse) → All (row_report v at m o)
+    report_served at m None = tt
+    report_served at m (Some g) = holder_served at m g m.size
+
+pub comes_served : (MayAsk : Type 0) (clients : ℕ) (v : Target) (at : At) (n : ℕ) (from : Node) (m : Message) → OfRun clients v → MessageServed MayAsk clients v m → AllServed ⊥ MayAsk clients (target.row v at (target.Comes n from m))
 comes_served MayAsk clients v at n from m s is = (tt, by m is)
   where
     -- where a turn may ask a disk
@@ -256,7 +303,13 @@ comes_served MayAsk clients v at n from m s is = (tt, by m is)
     told who boot is = record { of = is.1; older = λ e. is.0; without = λ e. is.0 }
 
     by : (m : Message) → MessageServed MayAsk clients v m → AllServed ⊥ MayAsk clients (row_heeds v at m)
-    by (message.Request r) is = heeds_served MayAsk clients v s r.who r.boot (while_serving v (row_request v at r)) is.1 (while_served MayAsk clients v s (row_request v at r) (request_served MayAsk clients v s at r is.0))
+    by (message.Request r) is = heeds_served MayAsk clients v s r.who r.boot (while_serving v (row_request v at r)) is (while_served MayAsk clients v s (row_request v at r) (request_served MayAsk clients v s at r))
+    by (message.Where who boot cookie) is =
+        heeds_served MayAsk clients v s who boot (while_serving v (row_where v who cookie)) is
+        (while_served MayAsk clients v s (row_where v who cookie) (finds_served MayAsk clients v s (lock_of who cookie v.granted)))
+    by (message.Size m) is =
+        heeds_served MayAsk clients v s m.who m.boot (while_serving v (row_report v at m (asked_for m v.glimpses))) is
+        (while_served MayAsk clients v s (row_report v at m (asked_for m v.glimpses)) (report_served MayAsk clients v s at m (asked_for m v.glimpses)))
     by (message.Cancel who boot cookie) is =
         heeds_served MayAsk clients v s who boot (while_serving v (row_cancel v at who cookie)) is
         (while_served MayAsk clients v s (row_cancel v at who cookie) (cancels_served MayAsk clients v s at (lock_of who cookie v.granted)))
@@ -293,11 +346,17 @@ pub uncalled_none : (v : Target) → v.called ≡ [] → condemned (after v Tick
 uncalled_none v none = ap (condemned (after v Tick)) none
 
 -- what is sent again
-again_served : (MayAsk : Type 0) (clients : ℕ) (w : Target) (cs : List Called) (locks : List Lock) → AllServed ⊥ MayAsk clients (sends_again w cs [] locks)
-again_served MayAsk clients w cs [] = tt
-again_served MayAsk clients w cs (l ∷ locks) =
-    every_more (LineServed ⊥ MayAsk clients) (block_again w l cs) (sends_again w cs [] locks)
-    (cond_both (is_called l.cookie cs && is_called l.cookie w.called) (block_of w l ∷ []) [] (AllServed ⊥ MayAsk clients) (λ t. (tt, tt)) (λ t. tt)) (again_served MayAsk clients w cs locks)
+asks_served : (MayAsk : Type 0) (clients : ℕ) (w : Target) (l : Lock) (gs : List Glimpse) → AllServed ⊥ MayAsk clients (asks_again w l gs)
+asks_served MayAsk clients w l [] = tt
+asks_served MayAsk clients w l (g ∷ gs) =
+    cond_both (list_any (same_glimpse g) w.glimpses) (ask_of w l g.request ∷ asks_again w l gs) (asks_again w l gs) (AllServed ⊥ MayAsk clients) (λ t. (tt, asks_served MayAsk clients w l gs)) (λ t. asks_served MayAsk clients w l gs)
+
+again_served : (MayAsk : Type 0) (clients : ℕ) (w : Target) (cs : List Called) (gs : List Glimpse) (locks : List Lock) → AllServed ⊥ MayAsk clients (sends_again w cs gs locks)
+again_served MayAsk clients w cs gs [] = tt
+again_served MayAsk clients w cs gs (l ∷ locks) =
+    every_more (LineServed ⊥ MayAsk clients) (block_again w l cs) (asks_again w l (glimpses_of l gs) ++ sends_again w cs gs locks)
+    (cond_both (is_called l.cookie cs && is_called l.cookie w.called) (block_of w l ∷ []) [] (AllServed ⊥ MayAsk clients) (λ t. (tt, tt)) (λ t. tt))
+    (every_more (LineServed ⊥ MayAsk clients) (asks_again w l (glimpses_of l gs)) (sends_again w cs gs locks) (asks_served MayAsk clients w l (glimpses_of l gs)) (again_served MayAsk clients w cs gs locks))
 
 -- who has a lock that expires is evicted, where a turn may ask a disk
 abbrev pub Expires : Type 0 → Target → Type 0
@@ -307,13 +366,13 @@ Expires MayAsk v = (who : Who) (gone : List Who) → condemned (after v Tick) v.
 pub of_tick : (v : Target) (at : At) (P : List Entry → Type 0) → P (Tick ∷ ticked at (after v Tick)) → P (Tick ∷ []) → P (Skip ∷ []) → P (target.row v at target.Ticks)
 of_tick v at P goes counts skips = cond_both v.up (row_tick v at) (Skip ∷ []) P (λ up. cond_both (is_serving v) (follow v (Tick ∷ []) (ticked at)) (Tick ∷ []) P (λ t. goes) (λ t. counts)) (λ down. skips)
 
-module _ (MayAsk : Type 0) (clients : ℕ) (v : Target) (at : At) (s : Quiet clients v) (may : Expires MayAsk v) where
+module _ (MayAsk : Type 0) (clients : ℕ) (v : Target) (at : At) (s : OfRun clients v) (may : Expires MayAsk v) where
   ticked_served : AllServed ⊥ MayAsk clients (ticked at (after v Tick))
   ticked_served =
       let w : Target = after v Tick in
-      let now = quiet_turn (Unit {0}) MayAsk clients v (Tick ∷ []) (tt, tt) s in
+      let now = of_run_turn (Unit {0}) MayAsk clients v (Tick ∷ []) (tt, tt) s in
       follow_served MayAsk clients (expels at (condemned w w.called) w) (λ x. sends_again x w.called w.glimpses x.granted) w now (expels_served MayAsk clients at (condemned w w.called) w may now)
-      (λ x r. subst (λ (gs : List Glimpse). AllServed ⊥ MayAsk clients (sends_again x w.called gs x.granted)) (sym s.glimpses) (again_served MayAsk clients x w.called x.granted))
+      (λ x r. again_served MayAsk clients x w.called w.glimpses x.granted)
 
   -- no line but the first counts
   line_ticked : (e : Entry) → LineServed ⊥ MayAsk clients e → LineServed (Unit {0}) MayAsk clients e
@@ -346,7 +405,7 @@ module _ (MayAsk : Type 0) (clients : ℕ) (v : Target) (at : At) where
       by [] = skipped
       by (d ∷ deeds) = ((may, tt), tt)
 
-  pub close_served : MayAsk → Quiet clients v → AllServed ⊥ MayAsk clients (target.row v at target.Closes)
+  pub close_served : MayAsk → OfRun clients v → AllServed ⊥ MayAsk clients (target.row v at target.Closes)
   close_served may s =
       cond_both v.up (row_closes v at) (Skip ∷ []) (AllServed ⊥ MayAsk clients)
       (λ t. cond_both (is_serving v) (Skip ∷ []) (row_close at v) (AllServed ⊥ MayAsk clients) (λ b. skipped) (λ b. back_served clients ⊥ MayAsk may (row_close at v) (close_back clients at v s))) (λ t. skipped)
@@ -354,5 +413,5 @@ module _ (MayAsk : Type 0) (clients : ℕ) (v : Target) (at : At) where
   pub crash_served : AllServed ⊥ MayAsk clients (target.row v at target.Crashes)
   crash_served = cond_both v.up (Crash ∷ []) (Skip ∷ []) (AllServed ⊥ MayAsk clients) (λ t. (tt, tt)) (λ t. skipped)
 
-  pub boots_served : MayAsk → Quiet clients v → AllServed ⊥ MayAsk clients (target.row v at target.Boots)
+  pub boots_served : MayAsk → OfRun clients v → AllServed ⊥ MayAsk clients (target.row v at target.Boots)
   boots_served may s = cond_both v.up (Skip ∷ []) (row_boot v at) (AllServed ⊥ MayAsk clients) (λ t. skipped) (λ t. boot_served MayAsk clients v at may s)

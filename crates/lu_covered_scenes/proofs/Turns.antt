@@ -1,5 +1,5 @@
--- One more turn of a covered scenario: it may be made, its lines are covered where no call to a disk fails in it, and what was so of each node is
--- so after it. Where no line gives a command and no client is evicted, it asks no disk.
+-- One more turn of a scenario: it may be made, its lines are covered where no call to a disk fails in it, and what was so of each node is so after
+-- it. Where no call changes bytes, no line gives a command and no client is evicted, it asks no disk.
 use Rattle.std.proofs.Common.{◌≡◌, ℕ, zero, suc, ◌+◌, ◌<◌, ◌≤◌, Bool, true, false, List, [], ◌∷◌, Option, ◌⊎◌, inl, inr, ⊎_elim, refl, sym, subst, ap, ◌∙◌, arith}
 use Rattle.std.specs.Prelude.{nat_eq, length, All}
 use Rattle.std.proofs.lemmas.Bool.{eqb-true}
@@ -30,18 +30,22 @@ use Rattle.lu_lawful.proofs.Covers.{EntriesCovered}
 use Rattle.lu_lawful.proofs.Grown.{Grown}
 use Rattle.lu_lawful.proofs.Lists.{self}
 use Rattle.lu_lawful.proofs.Obey.{grown}
+use Rattle.lu_lawful.proofs.BareGuards.{BareGrown}
+use Rattle.lu_lawful.proofs.Bare.{bare_grown}
 use Rattle.lu_lawful.proofs.GuardTurns.{covered_head}
 use Rattle.lu_lawful.proofs.Asked.{Began}
 use Rattle.lu_lawful.proofs.Unlocked.{unlocked, uncalled_other}
 use Rattle.lu_covered_scenes.specs.Covered as scenes
-use Rattle.lu_covered_scenes.specs.Covered.{IsCovered, IsNoCommand, AsksNoDisk}
-use Rattle.lu_covered_scenes.proofs.Arrivals.{Arrives, grants_reads, target_served}
+use Rattle.lu_covered_scenes.specs.Covered.{IsNoCommand}
+use Rattle.lu_table.specs.Limits.{KeepsLimits}
+use Rattle.lu_covered_scenes.proofs.Arrivals.{Arrives, target_served}
 use Rattle.lu_covered_scenes.proofs.Asking.{AllSuit, turn_suits}
 use Rattle.lu_covered_scenes.proofs.Clients.{Calm, AllCalm, turn_calm, lines_covered, lines_suit}
 use Rattle.lu_covered_scenes.proofs.ClientRows.{EventCalm, row_calm}
-use Rattle.lu_covered_scenes.proofs.Lines.{MayAsk, Calls, AllOfLines, all_miss}
-use Rattle.lu_covered_scenes.proofs.Numbers.{Below, comes_below, tick_below, commit_command_below, crash_command_below, close_command_below, boot_command_below, more_below, has_numbers}
-use Rattle.lu_covered_scenes.proofs.Served.{AllServed, served_covered, served_suit, asks_none, served_began, served_still, over_unfailed, Quiet, stays_quiet, first_lives, first_boot, first_serves, called_same}
+use Rattle.lu_covered_scenes.proofs.Lines.{IsQuiet, MayAsk, Calls, AllOfLines, all_miss, all_bare}
+use Rattle.lu_covered_scenes.proofs.Numbers.{Below, more_below}
+use Rattle.lu_covered_scenes.proofs.NumberRows.{comes_below, tick_below, commit_command_below, crash_command_below, close_command_below, boot_command_below, has_numbers}
+use Rattle.lu_covered_scenes.proofs.Served.{AllServed, served_covered, served_suit, asks_none, served_began, served_still, over_unfailed, OfRun, stays_of_run, first_lives, first_boot, first_serves, called_same}
 use Rattle.lu_covered_scenes.proofs.Targets.{Expires, comes_served, tick_served, tick_counts, expires_none, uncalled_none, commit_served, crash_served, close_served, boots_served}
 
 -- ---- what is so of a configuration
@@ -60,7 +64,7 @@ abbrev pub IsTimely : Scene → ℕ → List Line → Type 0
 IsTimely scene left past = ((target_of (head_of scene.head) 0 past).ticks + left < scene.head.expire) ⊎ scenes.AllMiss scene.lines
 
 abbrev pub Timely : Scene → ℕ → List Line → Type 0
-Timely scene left past = AsksNoDisk scene → IsTimely scene left past
+Timely scene left past = IsQuiet scene → IsTimely scene left past
 
 -- no disk has failed
 pub covered_unfailed : (past : List Line) → AllCovered past → has_failed past ≡ false
@@ -98,7 +102,7 @@ not_failing disks past (node.Target t) es asks = ap (λ (more : ℕ). over_disk 
 
 -- ---- a turn
 
-module _ (scene : Scene) (covered : IsCovered scene) where
+module _ (scene : Scene) (limits : KeepsLimits scene) where
   abbrev head : Head
   head = head_of scene.head
 
@@ -112,20 +116,24 @@ module _ (scene : Scene) (covered : IsCovered scene) where
   pub past_grown : (c : Config) → Sound scene c → Grown (covered_head head) (past_of c)
   past_grown c s = grown head c.turns s.table.run s.covered
 
+  -- of a scenario that changes no bytes
+  pub bare : (c : Config) → Sound scene c → IsQuiet scene → BareGrown (covered_head head) (past_of c)
+  bare c s quiet = bare_grown (covered_head head) (past_of c) (past_grown c s) (all_bare scene quiet.0 (past_of c) s.begun)
+
   pub unfailed : (c : Config) → Sound scene c → has_failed (past_of c) ≡ false
   unfailed c s = covered_unfailed (past_of c) s.covered
 
-  pub target_quiet : (c : Config) → Sound scene c → (t : ℕ) → Quiet head.clients (target_of head t (past_of c))
-  target_quiet c s t = stays_quiet (MayAsk scene) head.osts (setting_of head t) head.clients (past_of c) s.suits s.covered
+  pub target_of_run : (c : Config) → Sound scene c → (t : ℕ) → OfRun head.clients (target_of head t (past_of c))
+  target_of_run c s t = stays_of_run (MayAsk scene) head.osts (setting_of head t) head.clients (past_of c) s.suits
 
   -- where no turn asks a disk
-  lives_stay : (c : Config) → Sound scene c → (t : ℕ) → AsksNoDisk scene → (target_of head t (past_of c)).lives ≡ lives_from 0 head.clients
+  lives_stay : (c : Config) → Sound scene c → (t : ℕ) → IsQuiet scene → (target_of head t (past_of c)).lives ≡ lives_from 0 head.clients
   lives_stay c s t quiet = first_lives (MayAsk scene) head.osts (λ may. may quiet) (setting_of head t) head.clients (past_of c) s.suits
 
-  boot_stays : (c : Config) → Sound scene c → (t : ℕ) → AsksNoDisk scene → (target_of head t (past_of c)).boot ≡ 1
+  boot_stays : (c : Config) → Sound scene c → (t : ℕ) → IsQuiet scene → (target_of head t (past_of c)).boot ≡ 1
   boot_stays c s t quiet = first_boot (MayAsk scene) head.osts (λ may. may quiet) (setting_of head t) head.clients (past_of c) s.suits
 
-  pub serves_still : (c : Config) → Sound scene c → (t : ℕ) → AsksNoDisk scene → is_serving (target_of head t (past_of c)) ≡ true
+  pub serves_still : (c : Config) → Sound scene c → (t : ℕ) → IsQuiet scene → is_serving (target_of head t (past_of c)) ≡ true
   serves_still c s t quiet = first_serves (MayAsk scene) head.osts (λ may. may quiet) (setting_of head t) head.clients (past_of c) s.suits
 
   -- the lines of the turn over disks that may fail
@@ -134,7 +142,7 @@ module _ (scene : Scene) (covered : IsCovered scene) where
 
   -- none has failed, or none is asked
   abbrev pub Spared : List Line → Type 0
-  Spared past = (has_failed past ≡ false) ⊎ AsksNoDisk scene
+  Spared past = (has_failed past ≡ false) ⊎ IsQuiet scene
 
   pub record Makes (c : Config) (n : Node) (event : EventAt n) : Type 0 where
     pub sound : Sound scene (made c n event)
@@ -211,7 +219,7 @@ module _ (scene : Scene) (covered : IsCovered scene) where
         numbers = left;
         same =
             λ disks. ⊎_elim (λ (whole : has_failed (with_lines at (over disks c (node.Target t) event) past) ≡ false). over_unfailed (fails_at disks past (node.Target t) es) at past es whole)
-            (λ (quiet : AsksNoDisk scene). not_failing disks past (node.Target t) es (asks_none T (MayAsk scene) head.clients (λ may. may quiet) es all));
+            (λ (quiet : IsQuiet scene). not_failing disks past (node.Target t) es (asks_none T (MayAsk scene) head.clients (λ may. may quiet) es all));
       }
     where
       past : List Line
@@ -269,13 +277,13 @@ module _ (scene : Scene) (covered : IsCovered scene) where
 
   module _ (c : Config) (t : ℕ) (s : Sound scene c) (some : All IsNoCommand scene.lines → ⊥) where
     may : MayAsk scene
-    may quiet = some quiet.commands
+    may quiet = some quiet.1.commands
 
     commits : (count : Option ℕ) → AllServed ⊥ (MayAsk scene) head.clients (lines_at c (node.Target t) (target.Commits count))
     commits count = commit_served (MayAsk scene) head.clients (target_of head t (past_of c)) (next_at c (node.Target t)) count may
 
     closes : AllServed ⊥ (MayAsk scene) head.clients (lines_at c (node.Target t) target.Closes)
-    closes = close_served (MayAsk scene) head.clients (target_of head t (past_of c)) (next_at c (node.Target t)) may (target_quiet c s t)
+    closes = close_served (MayAsk scene) head.clients (target_of head t (past_of c)) (next_at c (node.Target t)) may (target_of_run c s t)
 
     pub commit_makes : (count : Option ℕ) → length c.turns < 65536 → t ≤ head.osts → Makes c (node.Target t) (target.Commits count)
     commit_makes count few one =
@@ -296,17 +304,17 @@ module _ (scene : Scene) (covered : IsCovered scene) where
 
     pub close_makes : length c.turns < 65536 → t ≤ head.osts → Makes c (node.Target t) target.Closes
     close_makes few one =
-        commands_makes c t target.Closes s tt closes (close_command_below (length c.turns) head.clients (target_of head t (past_of c)) (next_at c (node.Target t)) (target_quiet c s t) (s.below t)) few one
+        commands_makes c t target.Closes s tt closes (close_command_below (length c.turns) head.clients (target_of head t (past_of c)) (next_at c (node.Target t)) (target_of_run c s t) (s.below t)) few one
 
     pub close_timely : (left : ℕ) → Timely scene left (past_of c) → Timely scene left (past_of (made c (node.Target t) target.Closes))
     close_timely left time = target_timely c t target.Closes left closes time
 
     boots : AllServed ⊥ (MayAsk scene) head.clients (lines_at c (node.Target t) target.Boots)
-    boots = boots_served (MayAsk scene) head.clients (target_of head t (past_of c)) (next_at c (node.Target t)) may (target_quiet c s t)
+    boots = boots_served (MayAsk scene) head.clients (target_of head t (past_of c)) (next_at c (node.Target t)) may (target_of_run c s t)
 
     pub boot_makes : length c.turns < 65536 → t ≤ head.osts → Makes c (node.Target t) target.Boots
     boot_makes few one =
-        commands_makes c t target.Boots s tt boots (boot_command_below (length c.turns) head.clients (target_of head t (past_of c)) (next_at c (node.Target t)) (target_quiet c s t) (s.below t)) few one
+        commands_makes c t target.Boots s tt boots (boot_command_below (length c.turns) head.clients (target_of head t (past_of c)) (next_at c (node.Target t)) (omega (arith, few)) (target_of_run c s t) (s.below t)) few one
 
     pub boot_timely : (left : ℕ) → Timely scene left (past_of c) → Timely scene left (past_of (made c (node.Target t) target.Boots))
     boot_timely left time = target_timely c t target.Boots left boots time
@@ -320,18 +328,18 @@ module _ (scene : Scene) (covered : IsCovered scene) where
     abbrev heard : target.Event
     heard = target.Comes n from m
 
-    arrives : Arrives scene covered (covered_head head) head.osts (past_of c) (past_grown c s) s.suits s.begun t its m
-    arrives = target_served scene covered (covered_head head) head.osts (past_of c) (past_grown c s) s.suits s.begun t its refl
-        (grants_reads (covered_head head) (setting_of head t) head.clients (past_of c) (past_grown c s)) (lives_stay c s t) (boot_stays c s t) n from m sent
+    arrives : Arrives scene limits (covered_head head) head.osts (past_of c) (past_grown c s) s.suits s.begun t its m
+    arrives = target_served scene limits (covered_head head) head.osts (past_of c) (past_grown c s) s.suits s.begun t its
+        (lives_stay c s t) (boot_stays c s t) n from m sent
 
     served : AllServed ⊥ (MayAsk scene) head.clients (lines_at c (node.Target t) heard)
-    served = comes_served (MayAsk scene) head.clients its (next_at c (node.Target t)) n from m (target_quiet c s t) arrives.served
+    served = comes_served (MayAsk scene) head.clients its (next_at c (node.Target t)) n from m (target_of_run c s t) arrives.served
 
     -- where it is up
     pub comes_makes : its.up ≡ true → length c.turns < 65536 → Makes c (node.Target t) heard
     comes_makes up few =
         served_makes ⊥ c t heard s few arrives.one (arrives.one, target_unfailed head t (past_of c) (unfailed c s), up, sent) served
-        (comes_below (length c.turns) head.clients its (target_quiet c s t) (s.below t) (MayAsk scene) (next_at c (node.Target t)) n from m arrives.served arrives.fits)
+        (comes_below (length c.turns) head.clients its (target_of_run c s t) (s.below t) (MayAsk scene) (next_at c (node.Target t)) n from m arrives.served arrives.fits)
         (let low = s.ticks t in let same = served_still (MayAsk scene) head.clients its (lines_at c (node.Target t) heard) served in omega (arith, low, same))
 
     pub comes_timely : (left : ℕ) → Timely scene left (past_of c) → Timely scene left (past_of (made c (node.Target t) heard))
@@ -348,10 +356,10 @@ module _ (scene : Scene) (covered : IsCovered scene) where
   NoneDue c t = condemned (after (target_of head t (past_of c)) Tick) (target_of head t (past_of c)).called ≡ []
 
   -- where no turn asks a disk none does
-  uncalled : (c : Config) → Sound scene c → AsksNoDisk scene → (t : ℕ) → called_at t (past_of c) ≡ [] → (target_of head t (past_of c)).called ≡ []
+  uncalled : (c : Config) → Sound scene c → IsQuiet scene → (t : ℕ) → called_at t (past_of c) ≡ [] → (target_of head t (past_of c)).called ≡ []
   uncalled c s quiet t none = called_same (MayAsk scene) head.osts (λ may. may quiet) (setting_of head t) head.clients (past_of c) s.suits ∙ none
 
-  pub names_due : (c : Config) (left : ℕ) → Sound scene c → Timely scene (left + 1) (past_of c) → AsksNoDisk scene → NoneDue c 0
+  pub names_due : (c : Config) (left : ℕ) → Sound scene c → Timely scene (left + 1) (past_of c) → IsQuiet scene → NoneDue c 0
   names_due c left s time quiet = by (time quiet)
     where
       by : IsTimely scene (left + 1) (past_of c) → NoneDue c 0
@@ -359,10 +367,10 @@ module _ (scene : Scene) (covered : IsCovered scene) where
       by (inr miss) =
           uncalled_none (target_of head 0 (past_of c)) (uncalled c s quiet 0 (unlocked (covered_head head) (past_of c) (past_grown c s) (all_miss scene miss (past_of c) s.begun)).1)
 
-  pub others_due : (c : Config) (t : ℕ) → Sound scene c → (t ≡ 0 → ⊥) → AsksNoDisk scene → NoneDue c t
-  others_due c t s other quiet = uncalled_none (target_of head t (past_of c)) (uncalled c s quiet t (uncalled_other (covered_head head) (past_of c) (past_grown c s) t other))
+  pub others_due : (c : Config) (t : ℕ) → Sound scene c → (t ≡ 0 → ⊥) → IsQuiet scene → NoneDue c t
+  others_due c t s other quiet = uncalled_none (target_of head t (past_of c)) (uncalled c s quiet t (uncalled_other (covered_head head) (past_of c) (bare c s quiet) t other))
 
-  module _ (c : Config) (t : ℕ) (s : Sound scene c) (none : AsksNoDisk scene → NoneDue c t) where
+  module _ (c : Config) (t : ℕ) (s : Sound scene c) (none : IsQuiet scene → NoneDue c t) where
     abbrev it : Target
     it = target_of head t (past_of c)
 
@@ -370,13 +378,13 @@ module _ (scene : Scene) (covered : IsCovered scene) where
     expires who gone e quiet = let due = none quiet in absurd (cc)
 
     counts : (target_turn it (lines_at c (node.Target t) target.Ticks)).ticks ≤ it.ticks + 1
-    counts = tick_counts (MayAsk scene) head.clients it (next_at c (node.Target t)) (target_quiet c s t) expires
+    counts = tick_counts (MayAsk scene) head.clients it (next_at c (node.Target t)) (target_of_run c s t) expires
 
     pub tick_makes : length c.turns < 65536 → t ≤ head.osts → Makes c (node.Target t) target.Ticks
     tick_makes few one =
         served_makes (Unit {0}) c t target.Ticks s few one (command_meets head (past_of c) t target.Ticks tt one (unfailed c s))
-        (tick_served (MayAsk scene) head.clients it (next_at c (node.Target t)) (target_quiet c s t) expires)
-        (tick_below (length c.turns) head.clients it (next_at c (node.Target t)) (target_quiet c s t) (s.below t))
+        (tick_served (MayAsk scene) head.clients it (next_at c (node.Target t)) (target_of_run c s t) expires)
+        (tick_below (length c.turns) head.clients it (next_at c (node.Target t)) (target_of_run c s t) (s.below t))
         (let low = s.ticks t in let same = counts in omega (arith, low, same))
 
   -- at the metadata target one tick less is left

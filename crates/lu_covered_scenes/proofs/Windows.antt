@@ -22,7 +22,7 @@ use Rattle.lu_target_rows.specs.States.{Target, after, turn, follow}
 use Rattle.lu_target_rows.specs.Windows.{is_replay, is_lock, word_of, is_newest, is_back, all_settled}
 use Rattle.lu_covered_scenes.proofs.Every.{Every, every_more, every_so}
 use Rattle.lu_covered_scenes.proofs.Asking.{IsOf, AllOf}
-use Rattle.lu_covered_scenes.proofs.Served.{IsFor, LineServed, AllServed, Quiet, quiet_turn, of_each, of_left}
+use Rattle.lu_covered_scenes.proofs.Served.{IsFor, LineServed, AllServed, OfRun, of_run_turn, of_each, of_left}
 
 -- ---- lines
 
@@ -76,9 +76,9 @@ module _ (clients : ℕ) where
   back_served Ticks MayAsk may es b = every_so (IsBack clients) (LineServed Ticks MayAsk clients) es (line_served Ticks MayAsk may) b
 
   -- these lines, and then those of the target as they left it
-  follow_back : (es : List Entry) (next : Target → List Entry) (v : Target) → Quiet clients v → All es → ((w : Target) → Quiet clients w → All (next w)) → All (follow v es next)
+  follow_back : (es : List Entry) (next : Target → List Entry) (v : Target) → OfRun clients v → All es → ((w : Target) → OfRun clients w → All (next w)) → All (follow v es next)
   follow_back es next v q all more =
-      every_more (IsBack clients) es (next (turn v es)) all (more (turn v es) (quiet_turn ⊥ (Unit {0}) clients v es (back_served ⊥ (Unit {0}) tt es all) q))
+      every_more (IsBack clients) es (next (turn v es)) all (more (turn v es) (of_run_turn ⊥ (Unit {0}) clients v es (back_served ⊥ (Unit {0}) tt es all) q))
 
   -- ---- a close
 
@@ -109,7 +109,7 @@ module _ (clients : ℕ) where
       (every_more (IsBack clients) (ready_lines v stay) (joined_lines v o.joins) (ready_back v stay) (joined_back v o.joins))
 
   -- who joins is of those that wished to, and who stays had a slot
-  pub close_back : (at : At) (v : Target) → Quiet clients v → All (row_close at v)
+  pub close_back : (at : At) (v : Target) → OfRun clients v → All (row_close at v)
   close_back at v q =
       let o : Outcome = outcome_of v at in
       let lives : AllOf clients o.disk.lives = of_each clients v.wishes (without_lives (lives_of o.gone) v.disk.lives) q.wishes (of_left clients (lives_of o.gone) v.disk.lives q.disk) in
@@ -118,7 +118,7 @@ module _ (clients : ℕ) where
       (lives, ((refl, q.wishes), every_more (IsBack clients) (kept_lines o.kept) (restore_lines o.locks) (kept_back o.kept) (restore_back o.locks)))
       (answers_back o v.lives (turn v first))
 
-  settles_back : (at : At) (v : Target) → Quiet clients v → All (settles at v)
+  settles_back : (at : At) (v : Target) → OfRun clients v → All (settles at v)
   settles_back at v q = cond_both (all_settled (window_of v) v.lives) (row_close at v) [] All (λ t. close_back at v q) (λ t. tt)
 
   -- ---- what is kept
@@ -126,26 +126,26 @@ module _ (clients : ℕ) where
   line_back : (before : Bool) (who : Who) (v : Target) → All (back_line before who v)
   line_back before who v = cond_both (is_back (window_of v) who && not before) (Back who ∷ []) [] All (λ t. (tt, tt)) (λ t. tt)
 
-  keeps_back : (v : Target) (at : At) (who : Who) (e : Entry) → Quiet clients v → IsBack clients e → All (row_keeps v at who e)
+  keeps_back : (v : Target) (at : At) (who : Who) (e : Entry) → OfRun clients v → IsBack clients e → All (row_keeps v at who e)
   keeps_back v at who e q one =
       let before : Bool = is_back (window_of v) who in
       follow_back (e ∷ []) (λ w. follow w (back_line before who w) (settles at)) v q (one, tt)
       (λ w r. follow_back (back_line before who w) (settles at) w r (line_back before who w) (λ x s. settles_back at x s))
 
-  pub replay_back : (v : Target) (at : At) (r : RequestReplay) → Quiet clients v → All (row_replay v at r)
+  pub replay_back : (v : Target) (at : At) (r : RequestReplay) → OfRun clients v → All (row_replay v at r)
   replay_back v at r q = cond_both (list_any (is_replay (replayed r)) v.replays) [] (row_keeps v at r.who (Stores (cut r))) All (λ t. tt) (λ t. keeps_back v at r.who (Stores (cut r)) q tt)
 
-  pub lock_back : (v : Target) (at : At) (l : Lock) → Quiet clients v → All (row_lock v at l)
+  pub lock_back : (v : Target) (at : At) (l : Lock) → OfRun clients v → All (row_lock v at l)
   lock_back v at l q = cond_both (list_any (is_lock l) v.brought) [] (row_keeps v at l.ask.who (Brings l)) All (λ t. tt) (λ t. keeps_back v at l.ask.who (Brings l) q tt)
 
-  pub word_back : (v : Target) (at : At) (said : Said) → Quiet clients v → All (row_word v at said)
+  pub word_back : (v : Target) (at : At) (said : Said) → OfRun clients v → All (row_word v at said)
   word_back v at said q = by (word_of said.who v.words)
     where
       by : (o : Option Said) → All (row_says v at said o)
       by None = keeps_back v at said.who (Says said) q tt
       by (Some before) = tt
 
-  pub wish_back : (v : Target) (at : At) (who : Who) → Quiet clients v → IsOf clients who → All (row_wish v at who)
+  pub wish_back : (v : Target) (at : At) (who : Who) → OfRun clients v → IsOf clients who → All (row_wish v at who)
   wish_back v at who q one = by (life_of who.client v.lives)
     where
       by : (o : Option Who) → All (wishes_by v at who o)
@@ -162,17 +162,17 @@ module _ (clients : ℕ) where
   up_back v (who ∷ lives) all = (all.0, up_back v lives all.1)
 
   -- what follows its first line
-  pub boots_back : (at : At) (v : Target) → Quiet clients v → All (up_lines v v.lives ++ settles at v)
+  pub boots_back : (at : At) (v : Target) → OfRun clients v → All (up_lines v v.lives ++ settles at v)
   boots_back at v q = every_more (IsBack clients) (up_lines v v.lives) (settles at v) (up_back v v.lives q.lives) (settles_back at v q)
 
 -- the target as it comes up
 abbrev pub booted : Target → Target
 booted v = after v (Boot (v.disk.boot + 1) v.disk)
 
-pub booted_quiet : (clients : ℕ) (v : Target) → Quiet clients v → Quiet clients (booted v)
-booted_quiet clients v q = quiet_turn ⊥ (Unit {0}) clients v (Boot (v.disk.boot + 1) v.disk ∷ []) ((tt, q.disk), tt) q
+pub booted_of_run : (clients : ℕ) (v : Target) → OfRun clients v → OfRun clients (booted v)
+booted_of_run clients v q = of_run_turn ⊥ (Unit {0}) clients v (Boot (v.disk.boot + 1) v.disk ∷ []) ((tt, q.disk), tt) q
 
-pub boot_served : (MayAsk : Type 0) (clients : ℕ) (v : Target) (at : At) → MayAsk → Quiet clients v → AllServed ⊥ MayAsk clients (row_boot v at)
+pub boot_served : (MayAsk : Type 0) (clients : ℕ) (v : Target) (at : At) → MayAsk → OfRun clients v → AllServed ⊥ MayAsk clients (row_boot v at)
 boot_served MayAsk clients v at may q =
     let w : Target = booted v in
-    ((may, q.disk), back_served clients ⊥ MayAsk may (up_lines w w.lives ++ settles at w) (boots_back clients at w (booted_quiet clients v q)))
+    ((may, q.disk), back_served clients ⊥ MayAsk may (up_lines w w.lives ++ settles at w) (boots_back clients at w (booted_of_run clients v q)))

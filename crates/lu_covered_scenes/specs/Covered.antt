@@ -1,16 +1,15 @@
--- The scenarios whose runs the theorem covers so far: clients begin calls on names, opens and closes among them, and the calls `read`, `flush`
--- and `glimpse`, messages come or are lost, time goes on, clients die, and targets are given all commands: they commit, all of it or some,
--- crash, boot, recover and close their windows, when they are told to or once every life is back. No call changes bytes, so each object that a
--- `read` or a `glimpse` asks for is empty, and so is each file that a `stat` finds. Whoever doesn't give back a lock in time, or doesn't come
--- back in a window, is evicted, and joins in a new life.
+-- The scenarios of whose runs all laws are proved so far: clients begin calls on names, opens and closes among them, and the calls `read`,
+-- `flush` and `glimpse`, messages come or are lost, time goes on, clients die, and targets are given all commands: they commit, all of it or
+-- some, crash, boot, recover and close their windows, when they are told to or once every life is back. No call changes bytes, so each object
+-- that a `read` or a `glimpse` asks for is empty, and so is each file that a `stat` finds. Whoever doesn't give back a lock in time, or doesn't
+-- come back in a window, is evicted, and joins in a new life. Of the others four laws are proved, and they need no premise but the limits.
 use Rattle.std.specs.Prelude.{◌<◌, ◌+◌, ℕ, zero, List, [], ◌∷◌, All, ◌⊎◌}
 use Rattle.lu_base.specs.declared.ids.Node.TheVariants.{Target}
-use Rattle.lu_msg.specs.declared.calls.Call.{Call as CallOf}
-use Rattle.lu_msg.specs.declared.calls.Call.TheVariants.{Write, Cut}
 use Rattle.lu_scene.specs.declared.scene.Scene.{Scene}
 use Rattle.lu_scene.specs.declared.scene.SceneLine.{SceneLine}
 use Rattle.lu_scene.specs.declared.scene.SceneLine.TheVariants.{Call, Run, RunSome, Deliver, Lose, Tick, Commit, CommitSome, Crash, Boot, Close, Die}
 use Rattle.lu_table.specs.Limits.{KeepsLimits}
+use Rattle.lu_covered.specs.Covered.{ChangesNoBytes}
 use Rattle.lu_covered.specs.Makes.{Path, CallMakes, Misses}
 
 -- ---- which paths are made
@@ -27,12 +26,7 @@ IsMade (line ∷ lines) path = Makes line path ⊎ IsMade lines path
 
 -- ---- which lines are covered
 
--- a call that changes no bytes
-abbrev pub ChangesNoBytes : CallOf → Type 0
-ChangesNoBytes (Write handle offset bytes) = ⊥
-ChangesNoBytes (Cut handle size) = ⊥
-ChangesNoBytes _ = Unit {0}
-
+-- a call changes no bytes
 abbrev pub IsLineCovered : SceneLine → Type 0
 IsLineCovered (Call client slot call) = ChangesNoBytes call
 IsLineCovered Run = Unit {0}

@@ -1,7 +1,7 @@
-//! The scenarios that the theorem covers so far, over the definition of a scenario's run in the whole table: whatever such a
-//! scenario comes to is a covered run, and lawful.
+//! What scenarios come to, over the definition of a scenario's run in the whole table: a covered run, whose trace keeps four
+//! laws; and where the scenario changes no bytes one that is lawful.
 //!
-//! `specs/Covered` says which scenarios are covered; `theorems` has what is proved.
+//! `specs/Covered` says which scenarios change no bytes; `theorems` has what is proved.
 #![tactic(auto)]
 
 pub mod theorems;

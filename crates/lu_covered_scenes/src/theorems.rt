@@ -1,24 +1,31 @@
-//! What holds of each scenario that is covered. Each function does nothing: its contract is a theorem over the definition of
-//! the run of a scenario.
+//! What holds of each scenario. Each function does nothing: its contract is a theorem over the definition of the run of a
+//! scenario.
 
 ghost use Rattle.std.specs.Prelude.{◌≡◌, ◌+◌, false, None};
 ghost use Rattle.lu_scene.specs.declared.scene.Scene.{Scene};
 ghost use Rattle.lu_words.specs.Printed.{printed};
 ghost use Rattle.lu_table.specs.Runs.{has_failed, IsRun};
 ghost use Rattle.lu_table.specs.Scenarios.{Config, Disks, start_fails, Leads, start, head_of, past_of};
-ghost use Rattle.lu_covered.specs.Covered.{AllCovered};
+ghost use Rattle.lu_table.specs.Limits.{KeepsLimits};
+ghost use Rattle.lu_covered.specs.Covered.{AllCovered, AllBare};
+ghost use Rattle.lu_lawful.specs.FourLaws.{FourLaws};
 ghost use Rattle.lu_lawful.specs.Lawful.{Lawful};
 ghost use Rattle.lu_covered_scenes.specs.Covered.{IsCovered, AsksNoDisk};
 
-/// Whatever a covered scenario comes to, where no call to a disk has failed, is a covered run of the whole table, so its
-/// trace is lawful: also where targets crash, boot, recover and close their windows. And where no line gives a command
-/// to a target and the lines show that no client is evicted no call has failed, unless one at a target's start: its
-/// turns make no other.
+/// Whatever a scenario comes to, where no call to a disk has failed, is a covered run of the whole table, so its trace keeps
+/// four laws: of messages, locks, acts and recovery, also where targets crash, boot, recover and close their windows. Where
+/// no call of it changes bytes its trace is lawful, by all laws. And where beside that no line gives a command to a target
+/// and the lines show that no client is evicted no call has failed, unless one at a target's start: its turns make no other.
 pub fn scenes_are_lawful()
-    ensures run { (scene : Scene) → IsCovered scene → let head = head_of scene.head in (disks : Disks) (c : Config)
+    ensures run { (scene : Scene) → KeepsLimits scene → let head = head_of scene.head in (disks : Disks) (c : Config)
         → Leads head disks (start head disks scene) c → has_failed (past_of c) ≡ false → IsRun head c.turns }
-    ensures covered { (scene : Scene) → IsCovered scene → let head = head_of scene.head in (disks : Disks) (c : Config)
+    ensures covered { (scene : Scene) → KeepsLimits scene → let head = head_of scene.head in (disks : Disks) (c : Config)
         → Leads head disks (start head disks scene) c → has_failed (past_of c) ≡ false → AllCovered (past_of c) }
+    ensures keeps { (scene : Scene) → KeepsLimits scene → let head = head_of scene.head in (disks : Disks) (c : Config)
+        → Leads head disks (start head disks scene) c → has_failed (past_of c) ≡ false
+        → FourLaws scene.head.osts (printed (past_of c)) }
+    ensures bare { (scene : Scene) → IsCovered scene → let head = head_of scene.head in (disks : Disks) (c : Config)
+        → Leads head disks (start head disks scene) c → has_failed (past_of c) ≡ false → AllBare (past_of c) }
     ensures lawful { (scene : Scene) → IsCovered scene → let head = head_of scene.head in (disks : Disks) (c : Config)
         → Leads head disks (start head disks scene) c → has_failed (past_of c) ≡ false
         → Lawful scene.head.osts (printed (past_of c)) }

@@ -1,4 +1,4 @@
--- What is sent to a client in a covered run in which no turn asks a disk may come to it: it is a block, or a reply of a target of the run that
+-- What is sent to a client in a run that changes no bytes, in which no turn asks a disk, may come to it: it is a block, or a reply of a target of the run that
 -- brings no size above 0 with a lock, and no lock that is held already.
 use Rattle.std.proofs.Common.{◌≡◌, ℕ, zero, suc, ◌+◌, ◌<◌, ◌≤◌, Bool, true, false, List, [], ◌∷◌, length, map, Option, Some, None, ◌++◌, ◌⊎◌, inl, inr, ⊎_elim, refl, sym, subst, ap, ◌∙◌, arith}
 use Rattle.std.proofs.lemmas.Bool.{and_parts}
@@ -35,13 +35,15 @@ use Rattle.lu_client_rows.specs.States.{Client}
 use Rattle.lu_covered.specs.ClientStates.{flights_of, life_of}
 use Rattle.lu_table.specs.Heads.{Head}
 use Rattle.lu_table.specs.Runs.{client_of}
-use Rattle.lu_covered_scenes.proofs.ClientLines.{IsLock, IsSimple, IsAskedOf, asked_simple, brings_its, reply_differs}
+use Rattle.lu_covered_scenes.proofs.ClientLines.{IsLock, IsBytes, IsSimple, IsAskedOf, asked_parts, brings_its, no_size, reply_differs}
 use Rattle.lu_covered_scenes.proofs.ClientLocks.{Differ, none_any, names_same, with_only}
 use Rattle.lu_covered_scenes.proofs.Guards.{In, Was}
 use Rattle.lu_covered_scenes.proofs.Grown.{Grown}
-use Rattle.lu_covered_scenes.proofs.Has.{Ungranted}
-use Rattle.lu_covered_scenes.proofs.GuardGiven.{Grants}
-use Rattle.lu_covered_scenes.proofs.LockKinds.{reply_bare, reply_grants}
+use Rattle.lu_covered_scenes.proofs.LockKinds.{reply_bare}
+use Rattle.lu_covered_scenes.proofs.BareObjects.{IsBareOp}
+use Rattle.lu_covered_scenes.proofs.BareCalls.{BareAnswer, BareSoFar, object_answer}
+use Rattle.lu_covered_scenes.proofs.FactLines.{acted_whole}
+use Rattle.lu_covered_scenes.proofs.Refused.{acted_answered}
 use Rattle.lu_covered_scenes.proofs.Held.{held_into}
 use Rattle.lu_covered_scenes.proofs.FactLockLists.{brought_again}
 use Rattle.lu_covered_scenes.proofs.Only.{sent_was, was_only, grown_of}
@@ -54,7 +56,8 @@ use Rattle.lu_covered_scenes.proofs.Lists.{self, life_is}
 use Rattle.lu_covered_scenes.proofs.Arrivals.{Goes, was_goes}
 use Rattle.lu_covered_scenes.proofs.Asking.{IsNode, AllSuit, was_suits}
 use Rattle.lu_nodes.specs.Comings.{are_new, is_short, is_in_file, may_answer, may_fit, may_reply, may_from, may_come}
-use Rattle.lu_covered_scenes.proofs.ClientReplies.{found_in, one_differs}
+use Rattle.lu_covered_scenes.proofs.ClientHears.{one_differs}
+use Rattle.lu_covered_scenes.proofs.ClientReplies.{found_in}
 
 -- ---- locks that come are new
 
@@ -86,27 +89,21 @@ new_so t (l ∷ locks) held differ apart =
 
 -- ---- the size that comes with it is 0
 
-short_none : (a : Answer) → Ungranted a → is_short (size_with a) ≡ true
-short_none (told.Granted cookie extent size) none = absurd none
-short_none a none = refl
+short_so : (a : Answer) → BareAnswer a → is_short (size_with a) ≡ true
+short_so (told.Granted cookie extent size) bare = ap (λ (n : ℕ). is_short (Some n)) bare.1
+short_so a bare = refl
 
-short_so : (past : List Line) (who : Who) (n : ℕ) (a : Answer) → Ungranted a ⊎ Grants past who n a → is_short (size_with a) ≡ true
-short_so past who n a (inl none) = short_none a none
-short_so past who n a (inr grants) = subst (λ (x : Answer). is_short (size_with x) ≡ true) (sym grants.is) refl
+-- no answer to an operation without a lock on an object brings one
+short_simple : (o : Op) (a : Answer) → IsSimple o → answer_fits o a ≡ true → is_short (size_with a) ≡ true
+short_simple o a simple fits = ap is_short (no_size o a simple fits)
 
 -- ---- what is asked lies in a file
 
-simple_in_file : (o : Op) → IsSimple o → is_in_file o ≡ true
-simple_in_file (op.Get resource cookie page) is = absurd is
-simple_in_file (op.Put resource cookie offset bytes) is = absurd is
-simple_in_file (op.Cut resource cookie size) is = absurd is
-simple_in_file _ is = refl
-
-lock_in_file : (o : Op) → IsLock o → is_in_file o ≡ true
-lock_in_file (op.Enqueue resource mode extent) is = refl
-lock_in_file o is = absurd is
-
--- ---- a flight that is found
+bare_in_file : (o : Op) → IsBareOp o → is_in_file o ≡ true
+bare_in_file (op.Get resource cookie page) is = absurd is
+bare_in_file (op.Put resource cookie offset bytes) is = absurd is
+bare_in_file (op.Cut resource cookie size) is = absurd is
+bare_in_file _ is = refl
 
 -- ---- the import of each target of the run
 
@@ -115,7 +112,7 @@ import_from f zero from t low = absurd (omega (arith, low))
 import_from f (suc n) from zero low = ap f (let same : from ≡ from + 0 = omega arith in same)
 import_from f (suc n) from (suc t) low = import_from f n (from + 1) t (omega (arith, low)) ∙ ap f (let same : from + 1 + t ≡ from + suc t = omega arith in same)
 
-module _ (head : Head) (past : List Line) (g : Grown (covered_head head) past) (c : ℕ) where
+module _ (head : Head) (past : List Line) (g : Grown (covered_head head) past) (bare : BareSoFar (covered_head head) past) (c : ℕ) where
   abbrev k : Client
   k = client_of head c past
 
@@ -170,30 +167,36 @@ module _ (head : Head) (past : List Line) (g : Grown (covered_head head) past) (
       unheld l i x j of_target same =
           let holding = h.locks.held c x (held_into c t past x of_target j) in
           let among : In l (brought d.op d.reply) = subst (λ (ls : List Lock). In l ls) brings i in
-          let one = (h.locks.once d holding.deed l x.lock (meant.acted, among) holding.gave (sym same)).0 in
+          let one = (h.locks.once d holding.deed l x.lock (meant.acted, inl among) holding.gave (sym same)).0 in
           let xid : f.xid ≡ holding.deed.reply.xid.0 = number ∙ ap (λ (v : ReplyTo). v.xid.0) meant.is ∙ ap (λ (v : Deed). v.reply.xid.0) one in
           (h.numbers.over life holding.deed.reply.xid.0 holding.heard).1 f flying xid
 
       asked : IsAskedOf t f.op
       asked = flew_kind (covered_head head) past t life f g (h.numbers.flying life f flying)
 
-      differ : IsSimple f.op ⊎ ((0 < t) × IsLock f.op) → Differ (brought f.op r)
+      differ : IsSimple f.op ⊎ ((0 < t) × (IsLock f.op ⊎ IsBytes f.op)) → Differ (brought f.op r)
       differ (inl simple) = subst Differ (sym (brings_its f.op r simple)) (reply_differs (covered_head head) story (node.Target t) c r (grown_of (covered_head head) t past g) here)
-      differ (inr lock) =
-          subst (λ (ls : List Lock). Differ (ls ++ granted_lock f.op r r.answer)) (sym (reply_bare (covered_head head) t past g lock.0 (node.Target t) (node.Client c) r here)) (one_differs f.op r r.answer)
+      differ (inr object) =
+          subst (λ (ls : List Lock). Differ (ls ++ granted_lock f.op r r.answer)) (sym (reply_bare (covered_head head) t past g object.0 (node.Target t) (node.Client c) r here)) (one_differs f.op r r.answer)
 
       locks_new : are_new t (brought f.op r) k.store.held ≡ true
-      locks_new = new_so t (brought f.op r) k.store.held (differ (asked_simple t f.op asked)) unheld
+      locks_new = new_so t (brought f.op r) k.store.held (differ (asked_parts t f.op asked)) unheld
 
       short : is_short (size_with r.answer) ≡ true
-      short = short_so story r.who r.xid.0 r.answer (reply_grants (covered_head head) t past g (node.Target t) (node.Client c) r here)
+      short = by asked
+        where
+          same_answer : r.answer ≡ d.reply.answer
+          same_answer = ap (λ (v : ReplyTo). v.answer) meant.is
+
+          by : IsAskedOf t f.op → is_short (size_with r.answer) ≡ true
+          by (inl names) = ⊎_elim
+              (λ (simple : IsSimple f.op). short_simple f.op r.answer simple (ap (λ (o : Op). answer_fits o r.answer) same_op ∙ ap (answer_fits d.op) same_answer ∙ (acted_answered (covered_head head) past d g (acted_whole t past d meant.acted)).0))
+              (λ (object : (0 < t) × (IsLock f.op ⊎ IsBytes f.op)). absurd (let zero = names.0 in let high = object.0 in omega (arith, zero, high)))
+              (asked_parts t f.op asked)
+          by (inr object) = short_so r.answer (subst BareAnswer (sym same_answer) (object_answer d ((bare.targets t object.0).deeds d meant.acted)))
 
       in_file : is_in_file f.op ≡ true
-      in_file = by (asked_simple t f.op asked)
-        where
-          by : IsSimple f.op ⊎ ((0 < t) × IsLock f.op) → is_in_file f.op ≡ true
-          by (inl simple) = simple_in_file f.op simple
-          by (inr lock) = lock_in_file f.op lock.1
+      in_file = bare_in_file f.op (bare.flew t life f (h.numbers.flying life f flying)).0
 
       answers : may_answer t r f k ≡ true
       answers = rw (locks_new, short, in_file) refl
@@ -225,6 +228,8 @@ module _ (head : Head) (past : List Line) (g : Grown (covered_head head) past) (
     from_so t (message.Block who boot cookie) there was goes = refl
     from_so t (message.Up boot) there was goes = absurd (none (was_suits MayAsk head.osts head.clients past (node.Target t) (node.Client c) (message.Up boot) suits was).0.0)
     from_so t (message.Ready who boot committed) there was goes = refl
+    from_so t (message.Grant notice) there was goes = absurd (bare.given (node.Target t) (node.Client c) notice was)
+    from_so t (message.Ask who boot cookie for_who xid) there was goes = refl
     from_so t (message.Evicted who boot) there was goes = absurd (none (was_suits MayAsk head.osts head.clients past (node.Target t) (node.Client c) (message.Evicted who boot) suits was).0)
     from_so t m there was goes = absurd goes
 

@@ -1,6 +1,6 @@
--- Which requests there are in a covered run: each has a tag below the number of requests that may be in flight, and asks the metadata target
--- for the operation of a call that began, or another target how long an object is, or for a lock on a range in order; and two to one target, of
--- one life and number, have one tag.
+-- Which requests there are in a run that changes no bytes: each has a tag below the number of requests that may be in flight, and asks the
+-- metadata target for the operation of a call that began, or another target how long an object is, or for a lock on a range in order; and two to
+-- one target, of one life and number, have one tag.
 use Rattle.std.proofs.Common.{◌≡◌, true, false, Bool, ℕ, zero, suc, ◌+◌, ◌<◌, ◌≤◌, List, [], ◌∷◌, length, map, ◌⊎◌, inl, inr, ⊎_elim, refl, sym, subst, ap, ◌∙◌, arith}
 use Rattle.std.specs.Prelude.{if◌then◌else◌, ◌||◌, nat_eq}
 use Rattle.std.proofs.lemmas.Bool.{cases_lt, and_parts, eqb-true}
@@ -34,7 +34,9 @@ use Rattle.lu_covered_scenes.proofs.Arrivals.{came}
 use Rattle.lu_covered_scenes.proofs.Asking.{IsOrdered, AllSuit, was_suits}
 use Rattle.lu_covered_scenes.proofs.Lists.{self, life_is}
 use Rattle.lu_covered_scenes.proofs.Asked.{AskedBy, flew_asked}
-use Rattle.lu_covered_scenes.proofs.ClientLines.{IsSize, IsLock, IsAskedOf}
+use Rattle.lu_covered_scenes.proofs.ClientLines.{IsOnObject, IsAskedOf}
+use Rattle.lu_covered_scenes.proofs.BareObjects.{IsBareOp}
+use Rattle.lu_covered_scenes.proofs.BareCalls.{BareSoFar}
 use Rattle.lu_covered_scenes.proofs.Sides.{flew_kind}
 
 -- ---- the least free tag isn't above the number of requests in flight
@@ -87,14 +89,14 @@ flew_one head (l ∷ past) g who f i = by l.at.node l.entry g.0.of (flew_one hea
 
 -- a call that began asks the metadata target for this, or another target is asked how long an object is, or for a lock on it
 abbrev pub AskedAt : List Line → ℕ → Op → Type 0
-AskedAt past t o = ((t ≡ 0) × AskedBy past o) ⊎ ((0 < t) × (IsSize o ⊎ IsLock o) × IsOrdered o)
+AskedAt past t o = ((t ≡ 0) × AskedBy past o) ⊎ ((0 < t) × IsOnObject o × IsBareOp o × IsOrdered o)
 
 -- a request to a target: its tag is small, and its operation is asked there
 pub record Fitting (head : Head) (past : List Line) (t : ℕ) (r : RequestOf) : Type 0 where
   pub tag : r.tag < head.flight
   pub asked : AskedAt past t r.op
 
-module _ (MayAsk : Type 0) (osts : ℕ) (head : Head) (past : List Line) (g : Grown head past) (suits : AllSuit MayAsk osts head.clients past) (t : ℕ) where
+module _ (MayAsk : Type 0) (osts : ℕ) (head : Head) (past : List Line) (g : Grown head past) (bare : BareSoFar head past) (suits : AllSuit MayAsk osts head.clients past) (t : ℕ) where
   h : HoldsAt head (only t past)
   h = (holds head past g).at t
 
@@ -118,7 +120,7 @@ module _ (MayAsk : Type 0) (osts : ℕ) (head : Head) (past : List Line) (g : Gr
 
       by : IsAskedOf t f.op → IsOrdered r.op → AskedAt past t r.op
       by (inl k) ordered = inl (k.0, subst (AskedBy past) same (flew_asked head past r.who f g (subst (λ (u : ℕ). Flew (only u past) r.who f) k.0 (meant_by n from r s).1)))
-      by (inr k) ordered = inr (k.0, subst (λ (o : Op). IsSize o ⊎ IsLock o) same k.1, ordered)
+      by (inr k) ordered = inr (k.0, subst IsOnObject same k.1, subst IsBareOp same (bare.flew t r.who f (meant_by n from r s).1).0, ordered)
 
   -- a request that waits has the tag of each that was sent of its life and number
   pub same_tag : (n : ℕ) (from : Node) (q r : RequestOf) → In q (server_of head.osts (only t past)).waiting → Sent past n from (Target t) (message.Request r) → same_request q r ≡ true → q.tag ≡ r.tag

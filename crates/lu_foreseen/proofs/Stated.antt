@@ -1,5 +1,5 @@
--- Each covered scenario in which no turn asks a disk is foreseen.
-use Rattle.std.proofs.Common.{◌≡◌, ℕ, zero, suc, ◌<◌, ◌≤◌, true, false, List, [], ◌∷◌, Option, Some, None, length, ◌⊎◌, inl, inr, refl, sym, subst, arith}
+-- Each scenario that changes no bytes, and in which no turn asks a disk, is foreseen.
+use Rattle.std.proofs.Common.{◌≡◌, ℕ, zero, suc, ◌<◌, ◌≤◌, true, false, List, [], ◌∷◌, Option, Some, None, length, inl, inr, refl, sym, subst, arith}
 use Rattle.std.specs.Prelude.{ℤ, pos, negsuc, All}
 use Rattle.std.proofs.lemmas.Bool.Decides.{nat_tests}
 use Rattle.std.proofs.lemmas.List.Elements.{All-nil, All-cons}
@@ -35,13 +35,16 @@ use Rattle.lu_words.specs.Concerns.{only}
 use Rattle.lu_covered_scenes.proofs.Guards.{In}
 use Rattle.lu_covered_scenes.proofs.Grown.{Grown}
 use Rattle.lu_covered_scenes.proofs.GuardTurns.{covered_head}
-use Rattle.lu_covered_scenes.proofs.ClientLines.{IsSize, IsLock}
+use Rattle.lu_covered_scenes.proofs.ClientLines.{IsOnObject}
+use Rattle.lu_covered_scenes.proofs.BareObjects.{IsBareOp}
+use Rattle.lu_covered_scenes.proofs.BareCalls.{BareSoFar}
+use Rattle.lu_covered_scenes.proofs.BareSteps.{bare_so_far}
 use Rattle.lu_covered_scenes.proofs.OnNames.{op_is}
 use Rattle.lu_after.proofs.Posts.{sent_at_is}
 use Rattle.lu_covered_scenes.specs.Covered.{IsCovered, AsksNoDisk, ticks_of}
 use Rattle.lu_covered_scenes.proofs.Arrivals.{to_client}
 use Rattle.lu_covered_scenes.proofs.Asking.{IsOrdered}
-use Rattle.lu_covered_scenes.proofs.Lines.{MayAsk, AllKnown, IsKnown, lines_known, called_fits}
+use Rattle.lu_covered_scenes.proofs.Lines.{IsQuiet, MayAsk, AllKnown, IsKnown, lines_known, called_fits, all_bare}
 use Rattle.lu_covered_scenes.proofs.Runs.{Follows, so_up, leads_follow}
 use Rattle.lu_covered_scenes.proofs.Turns.{Timely, NoneDue, past_grown, serves_still, comes_makes, comes_one, names_due, others_due, tick_makes}
 use Rattle.lu_nodes.specs.Foreseen.{MayHave, IsForeseen, IsTickForeseen}
@@ -74,11 +77,13 @@ names_take (Some f) (call.Close h) o e fits = subst (Takes Mdt) (op_is (op.Close
 names_take file k o e fits = absurd (cc)
 
 -- an object storage target is asked how long an object is, or for a lock on it
-object_takes : (o : Op) → IsSize o ⊎ IsLock o → IsOrdered o → Takes Ost o
-object_takes (op.Size resource) is ordered = tt
-object_takes (op.Enqueue resource mode extent) is ordered = ordered
-object_takes o (inl is) ordered = absurd is
-object_takes o (inr is) ordered = absurd is
+object_takes : (o : Op) → IsOnObject o → IsBareOp o → IsOrdered o → Takes Ost o
+object_takes (op.Size resource) is bare ordered = tt
+object_takes (op.Enqueue resource mode extent) is bare ordered = ordered
+object_takes (op.Get resource cookie page) is bare ordered = absurd bare
+object_takes (op.Put resource cookie offset bytes) is bare ordered = absurd bare
+object_takes (op.Cut resource cookie size) is bare ordered = absurd bare
+object_takes o is bare ordered = absurd is
 
 all_of : {A : Type 0} (P : A → Type 0) (xs : List A) → ((x : A) → In x xs → P x) → All P xs
 all_of P [] so = All-nil P
@@ -98,19 +103,22 @@ module _ (scene : Scene) (covered : IsCovered scene) (quiet : AsksNoDisk scene) 
   past = past_of c
 
   f : Follows scene c
-  f = leads_follow scene covered disks c is.leads is.unfailed
+  f = leads_follow scene covered.limits disks c is.leads is.unfailed
 
   room : length c.turns < 65536
   room = has_room c is.room
 
   g : Grown h past
-  g = past_grown scene covered c f.sound
+  g = past_grown scene covered.limits c f.sound
+
+  bare : BareSoFar h past
+  bare = bare_so_far h past g (all_bare scene covered past f.sound.begun)
 
   serves_at : (t : ℕ) → is_serving (target_of head t past) ≡ true
-  serves_at t = serves_still scene covered c f.sound t quiet
+  serves_at t = serves_still scene covered.limits c f.sound t (covered, quiet)
 
   none : MayAsk scene → ⊥
-  none may = may quiet
+  none may = may (covered, quiet)
 
   -- ---- a message to a target
 
@@ -118,21 +126,21 @@ module _ (scene : Scene) (covered : IsCovered scene) (quiet : AsksNoDisk scene) 
   takes_so : (t : ℕ) (o : Op) → AskedAt past t o → Takes (kind_of t) o
   takes_so zero o (inl names) =
       let asked = names.1 in
-      names_take asked.2 asked.0 o asked.3 (called_fits scene scene.lines (lines_known scene covered) asked.0 (f.sound.begun asked.0 asked.1))
+      names_take asked.2 asked.0 o asked.3 (called_fits scene scene.lines (lines_known scene covered.limits) asked.0 (f.sound.begun asked.0 asked.1))
   takes_so zero o (inr objects) = absurd (let high = objects.0 in omega (arith, high))
   takes_so (suc t) o (inl names) = absurd (cc)
-  takes_so (suc t) o (inr objects) = object_takes o objects.1 objects.2
+  takes_so (suc t) o (inr objects) = object_takes o objects.1 objects.2 objects.3
 
   may_have : (t n : ℕ) (from : Node) (m : Message) → Sent past n from (Target t) m → MayHave m (target_of head t past)
   may_have t n from (message.Request r) sent =
-      let fits : Fitting h past t r = request_fits (MayAsk scene) head.osts h past g f.sound.suits t n from r sent in
+      let fits : Fitting h past t r = request_fits (MayAsk scene) head.osts h past g bare f.sound.suits t n from r sent in
       let most = covered.limits.head.most_flight in
       let tag = fits.tag in
-      let queue : (target_of head t past).queue ≡ (server_of head.osts (only t past)).waiting = waiting_same (MayAsk scene) head.osts head.clients none h (setting_of head t) past g f.sound.suits f.sound.covered in (
+      let queue : (target_of head t past).queue ≡ (server_of head.osts (only t past)).waiting = waiting_same (MayAsk scene) head.osts head.clients none h (setting_of head t) past f.sound.suits in (
         omega arith,
         takes_so t r.op fits.asked,
         subst (All (λ (q : RequestOf). same_request q r ≡ true → q.tag ≡ r.tag)) (sym queue)
-            (all_of (λ (q : RequestOf). same_request q r ≡ true → q.tag ≡ r.tag) (server_of head.osts (only t past)).waiting (λ q i e. same_tag (MayAsk scene) head.osts h past g f.sound.suits t n from q r i sent e)),
+            (all_of (λ (q : RequestOf). same_request q r ≡ true → q.tag ≡ r.tag) (server_of head.osts (only t past)).waiting (λ q i e. same_tag (MayAsk scene) head.osts h past g bare f.sound.suits t n from q r i sent e)),
       )
   may_have t n from _ sent = tt
 
@@ -141,11 +149,11 @@ module _ (scene : Scene) (covered : IsCovered scene) (quiet : AsksNoDisk scene) 
 
   to_target : (t n : ℕ) (m : SentMessage) → (target_of head t past).up ≡ true → Sent past n m.from (Target t) m.message → IsForeseen head past (next_stamp c) (message_to m.from (Target t) m)
   to_target t n m up sent = (
-    comes_one scene covered c t n m.from m.message f.sound sent,
+    comes_one scene covered.limits c t n m.from m.message f.sound sent,
     up,
     serves_at t,
     may_have t n m.from m.message sent,
-    (comes_makes scene covered c t n m.from m.message f.sound sent up room).numbers,
+    (comes_makes scene covered.limits c t n m.from m.message f.sound sent up room).numbers,
   )
 
   -- ---- all messages
@@ -155,7 +163,7 @@ module _ (scene : Scene) (covered : IsCovered scene) (quiet : AsksNoDisk scene) 
     where
       by : (node : Node) → is_down head disks node past ≡ false → Sent past n m.from node m.message → IsForeseen head past (next_stamp c) (message_to m.from node m)
       by (Client who) up sent =
-          let came = comes head past g who (MayAsk scene) none f.sound.suits n m.from m.message sent in
+          let came = comes head past g bare who (MayAsk scene) none f.sound.suits n m.from m.message sent in
           (to_client (MayAsk scene) head.osts h past g f.sound.suits n who m.from m.message sent, came.0, came.1)
       by (Target t) up sent = to_target t n m (so_up (target_of head t past).up up) sent
 
@@ -164,15 +172,15 @@ module _ (scene : Scene) (covered : IsCovered scene) (quiet : AsksNoDisk scene) 
   line_known : (line : SceneLine) (rest : List SceneLine) → c.lines ≡ line ∷ rest → IsKnown scene.lines scene.head.clients scene.head.osts line
   line_known line rest e = (subst (AllKnown scene) e f.lines).0
 
-  tick : (t : ℕ) → t ≤ head.osts → (AsksNoDisk scene → NoneDue scene covered c t) → IsTickForeseen head past (next_stamp c) t
+  tick : (t : ℕ) → t ≤ head.osts → (IsQuiet scene → NoneDue scene covered.limits c t) → IsTickForeseen head past (next_stamp c) t
   tick t one due =
       let low = f.sound.ticks t in
       let few_turns_made = room in
-      (λ all. omega arith, (tick_makes scene covered c t f.sound due room one).numbers)
+      (λ all. omega arith, (tick_makes scene covered.limits c t f.sound due room one).numbers)
 
   ticks : (t : ℕ) (rest : List SceneLine) → c.lines ≡ Tick (Target t) ∷ rest → IsTickForeseen head past (next_stamp c) t
-  ticks zero rest e = tick 0 (line_known (Tick (Target 0)) rest e) (names_due scene covered c (ticks_of rest) f.sound (subst (λ (lines : List SceneLine). Timely scene (ticks_of lines) past) e f.time))
-  ticks (suc t) rest e = tick (suc t) (line_known (Tick (Target (suc t))) rest e) (others_due scene covered c (suc t) f.sound (λ q. absurd (cc)))
+  ticks zero rest e = tick 0 (line_known (Tick (Target 0)) rest e) (names_due scene covered.limits c (ticks_of rest) f.sound (subst (λ (lines : List SceneLine). Timely scene (ticks_of lines) past) e f.time))
+  ticks (suc t) rest e = tick (suc t) (line_known (Tick (Target (suc t))) rest e) (others_due scene covered.limits c (suc t) f.sound (λ q. absurd (cc)))
 
   no_command : (line : SceneLine) → IsKnown scene.lines scene.head.clients scene.head.osts line → IsCommand line → ⊥
   no_command (Commit t) known is = absurd (known.some quiet.commands)
