@@ -9,6 +9,7 @@ pub mod Windows
 pub mod Glimpses
 pub mod EmptyReads
 pub mod EmptyStats
+pub mod Writes
 pub mod AbsentAndGap
 pub mod CrashInRecovery
 pub mod KeepsHeard
@@ -21,5 +22,6 @@ pub mod Covering
 pub mod Covered
 pub mod CoveredReads
 pub mod CoveredStats
+pub mod KeptWrites
 pub mod Fits
 pub mod Unfit
