@@ -12,7 +12,7 @@ use Rattle.lu_judge_glimpse.specs.Wanted.{meets, clears, IsLeast}
 use Rattle.lu_judge_glimpse.specs.Shown.{turn_end, ends, Pending, Fresh}
 use Rattle.lu_judge_glimpse.proofs.Numbers.{and_left, and_right, and_true}
 use Rattle.lu_judge_glimpse.proofs.Told.{clears_both}
-use Rattle.lu_judge_glimpse.proofs.Turns.{goes_on, same_of_not}
+use Rattle.lu_judge_glimpse.proofs.Turns.{turn_goes_on}
 
 -- the next line leaves what was wanted before as it was: either nothing was, or its turn goes on
 pub wanted_stays : (osts : ℕ) (past : Past) (l : Line) (later : List Line) (ws : List Wanted) → (ends past (l ∷ later) ≡ true → ws ≡ []) → (j : ℕ)
@@ -24,7 +24,7 @@ wanted_stays osts [] l later ws done j = none (done refl)
 wanted_stays osts (k ∷ past) l later ws done j = by (same_turn k.at l.at) refl
   where
     by : (v : Bool) → same_turn k.at l.at ≡ v → clears (meets (machine_cut osts (turn_end (k ∷ past) (l ∷ later)))) j ws ≡ clears (meets (machine_cut osts (turn_end (l ∷ k ∷ past) later))) j ws
-    by true is = ap (λ (p : Past). clears (meets (machine_cut osts p)) j ws) (goes_on k l past later is)
+    by true is = ap (λ (p : Past). clears (meets (machine_cut osts p)) j ws) (turn_goes_on k l past later is)
     by false is =
         let none : ws ≡ [] = done (ap not is) in
         ap (clears (meets (machine_cut osts (turn_end (k ∷ past) (l ∷ later)))) j) none ∙ sym (ap (clears (meets (machine_cut osts (turn_end (l ∷ k ∷ past) later))) j) none)

@@ -1,4 +1,5 @@
 pub mod Ended
+pub mod Looks
 pub mod Loops
 pub mod Numbers
 pub mod Passed

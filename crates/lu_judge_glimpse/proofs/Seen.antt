@@ -22,9 +22,7 @@ use Rattle.lu_judge_sizes.specs.Begins.{begun_place, count_in}
 use Rattle.lu_judge_sizes.specs.Sightings.{last_in, is_from, since_in}
 use Rattle.lu_judge_glimpse.specs.declared.glimpses.Watch.{Watch}
 use Rattle.lu_judge_glimpse.specs.Watched.{seen_after, logged, heard_after, Below, SeenIn, SeenOver, SeenNext, earlier, Covers}
-use Rattle.lu_judge_glimpse.specs.Shown.{ends}
 use Rattle.lu_judge_glimpse.proofs.Numbers.{eq_turned, le_is, and_false, or_under, or_over}
-use Rattle.lu_judge_glimpse.proofs.Turns.{other_of_not, same_of_not}
 
 -- a call began before the next line
 pub begun_before : (c slot : ℕ) (past : Past) → begun_place c slot past ≤ length past

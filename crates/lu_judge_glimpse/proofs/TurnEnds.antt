@@ -1,4 +1,4 @@
--- What is known where a turn ends.
+-- What is known where the trace is cut, and where a turn ends.
 use Rattle.std.proofs.Common.{◌≡◌, ℕ, suc, ◌+◌, ◌<◌, ◌≤◌, Bool, true, false, List, [], ◌∷◌, length, map, inl, inr, refl, ap, ◌∙◌, sym, subst, ⊎_elim, arith}
 use Rattle.std.specs.Prelude.{◌==◌, ◌&&◌, if◌then◌else◌, ◌⊎◌, Option, Some, None}
 use Rattle.std.specs.Map.{lookup, values_of}
@@ -6,9 +6,9 @@ use Rattle.lu_base.specs.declared.ids.Fid.{Fid}
 use Rattle.lu_trace.specs.declared.entries.Line.{Line}
 use Rattle.lu_machine.specs.Machine.{Machine, object_of}
 use Rattle.lu_machine.specs.Objects.{object_size}
-use Rattle.lu_laws.specs.Words.Pasts.{Past, same_turn}
+use Rattle.lu_laws.specs.Words.Pasts.{Past}
 use Rattle.lu_laws.specs.Words.Calls.{Begun, open_call, file_of}
-use Rattle.lu_laws.specs.Words.Glimpses.{begins, cuts, with_cut, machine_cut, peeked}
+use Rattle.lu_laws.specs.Words.Glimpses.{begins, with_cut, goes_on, machine_cut, peeked}
 use Rattle.lu_judge.specs.Firsts.{HoldsBelow}
 use Rattle.lu_judge_sizes.specs.declared.counts.Counts.{Counts}
 use Rattle.lu_judge_sizes.specs.declared.sightings.Sightings.{Sightings}
@@ -16,7 +16,7 @@ use Rattle.lu_judge_sizes.specs.Begins.{begun_place, count_in}
 use Rattle.lu_judge_sizes.specs.Sightings.{last_in}
 use Rattle.lu_judge_glimpse.specs.declared.glimpses.Watch.{Watch}
 use Rattle.lu_judge_glimpse.specs.declared.wanted.Wanted.{Wanted}
-use Rattle.lu_judge_glimpse.specs.Shown.{ends, Pending, Fresh}
+use Rattle.lu_judge_glimpse.specs.Shown.{is_cut, Pending, Fresh}
 use Rattle.lu_judge_glimpse.specs.Wanted.{clears}
 use Rattle.lu_judge_glimpse.specs.Watched.{seen_after, logged, Below, CoversCall, Covers, SeenIn, SeenOver, SeenNext, earlier}
 use Rattle.lu_judge_glimpse.proofs.Seen.{begun_before, ended_call}
@@ -42,13 +42,13 @@ module _ (osts : ℕ) (counts : Counts) (old new : Sightings) (entries : List ((
   abbrev Seen : Past → Type 0
   Seen past = (f : Fid) (stripe size : ℕ) → last_in new f stripe size ≡ seen_after (machine_cut osts past) next (logged (values_of entries) f stripe) f stripe size (last_in old f stripe size)
 
-  pub seen_end : (past : Past) (later : List Line) → next + 1 ≡ length past → ends past later ≡ true
+  pub seen_end : (past : Past) (later : List Line) → next + 1 ≡ length past → is_cut past later ≡ true
       → Covers (λ c slot. lookup (λ k. c == k.0 && slot == k.1) entries) counts past → Seen past
       → SeenOver old counts osts (λ c slot. earlier c slot past) past → SeenNext new counts osts past later
   seen_end [] later place ended covers is seen = absurd (omega (arith, place))
   seen_end (l ∷ past) [] place ended covers is seen = tt
   seen_end (l ∷ past) (k ∷ later) place ended covers is seen = λ c slot.
-      let other : same_turn l.at k.at ≡ false = other_of_not (same_turn l.at k.at) ended in
+      let other : goes_on l k.at ≡ false = other_of_not (goes_on l k.at) ended in
       let within : begun_place c slot (l ∷ past) ≤ length past = begun_within c slot l past in
       subst (λ (v : Bool). SeenIn new counts (map (machine_cut osts) (with_cut v (l ∷ past) (earlier c slot (l ∷ past)))) (begun_place c slot (l ∷ past)) (λ file stripe. peeked c slot file stripe (l ∷ past)) (open_call c slot (l ∷ past))) (sym other)
       (ended_call counts osts old new (machine_cut osts (l ∷ past)) next (values_of entries) is (map (machine_cut osts) (earlier c slot (l ∷ past))) (begun_place c slot (l ∷ past)) (λ file stripe. peeked c slot file stripe (l ∷ past)) (open_call c slot (l ∷ past))
@@ -67,13 +67,13 @@ pub none_logged : (osts : ℕ) (past : Past) (s : Sightings) (entries : List ((�
 none_logged osts past s [] next none f stripe size = refl
 none_logged osts past s (e ∷ entries) next none f stripe size = absurd (omega (arith, none))
 
--- the turn goes on
-pub seen_on : (osts : ℕ) (counts : Counts) (s : Sightings) (past : Past) (later : List Line) → ends past later ≡ false → SeenOver s counts osts (λ c slot. earlier c slot past) past → SeenNext s counts osts past later
+-- the trace goes on
+pub seen_on : (osts : ℕ) (counts : Counts) (s : Sightings) (past : Past) (later : List Line) → is_cut past later ≡ false → SeenOver s counts osts (λ c slot. earlier c slot past) past → SeenNext s counts osts past later
 seen_on osts counts s [] later on seen = absurd (cc (on))
 seen_on osts counts s (l ∷ past) [] on seen = tt
 seen_on osts counts s (l ∷ past) (k ∷ later) on seen = λ c slot.
     subst (λ (v : Bool). SeenIn s counts (map (machine_cut osts) (with_cut v (l ∷ past) (earlier c slot (l ∷ past)))) (begun_place c slot (l ∷ past)) (λ file stripe. peeked c slot file stripe (l ∷ past)) (open_call c slot (l ∷ past)))
-    (sym (same_of_not (same_turn l.at k.at) on)) (seen c slot)
+    (sym (same_of_not (goes_on l k.at) on)) (seen c slot)
 
 -- where nothing is wanted any more
 pub pending_none : (law : Past → Line → List Line → Type 0) (lines : List Line) (count : ℕ) (met : Wanted → Bool) → HoldsBelow law lines count → Pending law lines count met []

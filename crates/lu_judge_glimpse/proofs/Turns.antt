@@ -38,8 +38,8 @@ turn_other a b is = by (same_turn b a) refl
     by true e = absurd (cc (is, subst (λ (x : At). same_turn a x ≡ true) (sym (turn_is b a e)) (turn_same a)))
 
 -- the turn goes on with the next line
-pub goes_on : (k l : Line) (past : Past) (later : List Line) → same_turn k.at l.at ≡ true → turn_end (k ∷ past) (l ∷ later) ≡ turn_end (l ∷ k ∷ past) later
-goes_on k l past later is =
+pub turn_goes_on : (k l : Line) (past : Past) (later : List Line) → same_turn k.at l.at ≡ true → turn_end (k ∷ past) (l ∷ later) ≡ turn_end (l ∷ k ∷ past) later
+turn_goes_on k l past later is =
     let same : k.at ≡ l.at = turn_is k.at l.at is in
     let back : same_turn l.at k.at ≡ true = subst (λ (a : At). same_turn l.at a ≡ true) (sym same) (turn_same l.at) in
     ap (λ (v : Bool). if v then to_turn_end k.at later (l ∷ k ∷ past) else (k ∷ past)) back

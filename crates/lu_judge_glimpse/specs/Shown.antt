@@ -5,7 +5,7 @@ use Rattle.lu_trace.specs.declared.entries.Line.{Line}
 use Rattle.lu_trace.specs.WellFormed.{IsLine}
 use Rattle.lu_machine.specs.Footprint.{Every}
 use Rattle.lu_laws.specs.Words.Pasts.{Past, same_turn}
-use Rattle.lu_laws.specs.Words.Glimpses.{to_turn_end, machine_cut}
+use Rattle.lu_laws.specs.Words.Glimpses.{to_turn_end, goes_on, machine_cut}
 use Rattle.lu_laws.specs.Laws.Glimpse.{Glimpse}
 use Rattle.lu_judge.specs.Firsts.{before, HoldsBelow}
 use Rattle.lu_judge.specs.Ledgers.{ShowsGone}
@@ -31,6 +31,12 @@ abbrev pub ends : Past → List Line → Bool
 ends [] later = true
 ends (l ∷ past) [] = true
 ends (l ∷ past) (next ∷ later) = not (same_turn l.at next.at)
+
+-- the trace is cut after the newest line
+abbrev pub is_cut : Past → List Line → Bool
+is_cut [] later = true
+is_cut (l ∷ past) [] = true
+is_cut (l ∷ past) (next ∷ later) = not (goes_on l next.at)
 
 -- ---- the pass
 
@@ -76,7 +82,12 @@ pub record Shown (p : Pass) : Type 0 where
   pub seen : SeenNext p.sightings p.counts p.history.osts (past_of p) (later_of p)
   pub done : ends (past_of p) (later_of p) ≡ true → p.wanted.items ≡ []
 
--- after a line, in its turn
+-- after a line, where what can be seen there was seen
+pub record Looked (p : Pass) : Type 0 where
+  pub kept : Kept p
+  pub seen : SeenNext p.sightings p.counts p.history.osts (past_of p) (later_of p)
+
+-- after a line, before anything is seen there
 pub record Stepped (p : Pass) : Type 0 where
   pub kept : Kept p
   pub seen : SeenOver p.sightings p.counts p.history.osts (λ c slot. earlier c slot (past_of p)) (past_of p)

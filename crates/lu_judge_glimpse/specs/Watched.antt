@@ -59,7 +59,7 @@ SeenOver s counts osts cuts_of past =
     → SeenIn s counts (map (machine_cut osts) (cuts_of c slot)) (begun_place c slot past)
     (λ file stripe. peeked c slot file stripe past) (open_call c slot past)
 
--- the cuts before the turn of the newest line
+-- the cuts before the newest line
 abbrev pub earlier : ℕ → ℕ → Past → List Past
 earlier c slot [] = []
 earlier c slot (l ∷ past) = if begins c slot l then [] else cuts c slot l.at past

@@ -2,7 +2,7 @@
 //!
 //! What a glimpse is told may be a size that an object has when the turn ends. So a line isn't judged when it comes: what
 //! it tells is compared with the sizes that were seen since the call began, and what is left over with the objects when
-//! the turn ends.
+//! the turn ends. Sizes are seen after each turn, and after each line by which a call begins or is told.
 
 ghost use Rattle.std.specs.Prelude.{◌≡◌, ℕ, ◌+◌, ◌-◌, ◌<◌, ◌≤◌, Bool, true, false, if◌then◌else◌, ◌==◌, ◌&&◌, nat_lt, Option, Some, None, List, [], ◌∷◌, ◌++◌, reverse, length, drop, IfOk, OnOk, IfSome, IfNone, IsSome, ◌↔◌};
 ghost use Rattle.std.specs.HashMap.{values};
@@ -12,7 +12,7 @@ ghost use Rattle.lu_trace.specs.WellFormed.{IsWellFormed};
 ghost use Rattle.lu_laws.specs.Words.Pasts.{Past};
 ghost use Rattle.lu_laws.specs.Words.Lives.{is_gone};
 ghost use Rattle.lu_laws.specs.Words.Calls.{file_of, open_call};
-ghost use Rattle.lu_laws.specs.Words.Glimpses.{machine_cut};
+ghost use Rattle.lu_laws.specs.Words.Glimpses.{machine_cut, is_moment, goes_on};
 ghost use Rattle.lu_laws.specs.Holds.{Holds};
 ghost use Rattle.lu_laws.specs.Laws.Messages.{Messages};
 ghost use Rattle.lu_laws.specs.Laws.Glimpse.{Glimpse as GlimpseLaw};
@@ -22,14 +22,14 @@ ghost use Rattle.lu_judge_calls.specs.Tables.{begun_of};
 ghost use Rattle.lu_judge_sizes.specs.Begins.{begun_place};
 ghost use Rattle.lu_judge_sizes.specs.Sightings.{last_in};
 ghost use Rattle.lu_judge_sizes.specs.Histories.{ShowsHistory};
-ghost use Rattle.lu_judge_glimpse.specs.Shown.{Shown, Stepped, ends, law_of, watch_at};
+ghost use Rattle.lu_judge_glimpse.specs.Shown.{Shown, Looked, Stepped, ends, is_cut, law_of, watch_at};
 ghost use Rattle.lu_judge_glimpse.specs.Tables.{ShowsTables};
 ghost use Rattle.lu_judge_glimpse.specs.Told.{told_entry};
 ghost use Rattle.lu_judge_glimpse.specs.Watched.{logged, seen_after, heard_after, watch_begun, watch_after};
 
 use super::tables::Tables;
 use super::wanted::{Wanted, first_unmet, want};
-use lu_base::{Fid, Memory, Node};
+use lu_base::{At, Fid, Memory, Node};
 use lu_judge::{Gone, gone_in, same_turn};
 use lu_judge_calls::Begun;
 use lu_judge_sizes::{Counts, History, Sightings, counts_in};
@@ -58,7 +58,7 @@ struct Pass<'a> {
     counts: Counts,
     tables: Tables<'a>,
     history: History<'a>,
-    /// The sizes that objects had when turns ended, where a call stood that will be told them, and those that lives which
+    /// The sizes that objects had at moments at which a call stood that will be told them, and those that lives which
     /// were gone answered.
     sightings: Sightings,
     /// The calls that stand and will be told sizes, by client and slot.
@@ -246,6 +246,20 @@ fn watch_line<'a>(
     }
 }
 
+/// Whether a call begins in the line or is told.
+fn is_moment(line: &Line) -> bool
+    ensures { result ≡ is_moment line.now }
+{
+    matches!(line.entry, Entry::Begin { .. } | Entry::Told { .. })
+}
+
+/// Whether nobody looks between the line and the next one, which is of this turn.
+fn goes_on(line: &Line, next: At) -> bool
+    ensures { result ≡ goes_on line.now next }
+{
+    same_turn(line.at, next) && !is_moment(line)
+}
+
 impl<'a> Pass<'a> {
     /// Takes in the next line.
     fn step(&mut self) -> Result<(), Memory>
@@ -287,10 +301,47 @@ impl<'a> Pass<'a> {
         !same_turn(self.lines[self.place - 1].at, self.lines[self.place].at)
     }
 
-    /// Judges what was told in the turn that ends here: the place of the first line that breaks the law, if any does.
-    fn end_turn(&mut self) -> Result<Option<usize>, Memory>
+    /// Whether the trace is cut here: sizes may be those of this moment.
+    fn is_cut(&self) -> bool
+        requires some { 0 < self.now.place }
+        requires within { self.now.place ≤ length self.now.lines.now }
+        ensures cut { result ≡ is_cut (before self.now.lines.now self.now.place)
+            (drop self.now.place self.now.lines.now) }
+    {
+        if self.place == self.lines.len() {
+            return true;
+        }
+        !goes_on(&self.lines[self.place - 1], self.lines[self.place].at)
+    }
+
+    /// Sees the objects of the files that are watched, where the trace is cut here.
+    fn look(&mut self) -> Result<(), Memory>
         requires stepped { Stepped self.old }
         requires some { 0 < self.old.place }
+        ensures looked { OnOk result (Looked self.new) }
+        ensures place { OnOk result (self.new.place ≡ self.old.place) }
+        ensures lines { OnOk result (self.new.lines ≡ self.old.lines) }
+        ensures osts { OnOk result (self.new.history.osts ≡ self.old.history.osts) }
+    {
+        if !self.is_cut() {
+            return Ok(());
+        }
+        if self.standing.len() == 0 {
+            return Ok(());
+        }
+        self.tables.build(&mut self.history)?;
+        see_files(
+            &mut self.sightings,
+            &self.history,
+            &self.standing,
+            self.place - 1,
+        )?;
+        Ok(())
+    }
+
+    /// Judges what was told in the turn that ends here: the place of the first line that breaks the law, if any does.
+    fn end_turn(&mut self) -> Result<Option<usize>, Memory>
+        requires looked { Looked self.old }
         requires ended { ends (before self.old.lines.now self.old.place) (drop self.old.place self.old.lines.now)
             ≡ true }
         ensures none { IfOk result (λ first. IfNone first (Shown self.new)) }
@@ -300,16 +351,10 @@ impl<'a> Pass<'a> {
         ensures lines { OnOk result (self.new.lines ≡ self.old.lines) }
         ensures osts { OnOk result (self.new.history.osts ≡ self.old.history.osts) }
     {
-        if self.standing.len() == 0 && self.wanted.len() == 0 {
+        if self.wanted.len() == 0 {
             return Ok(None);
         }
         self.tables.build(&mut self.history)?;
-        see_files(
-            &mut self.sightings,
-            &self.history,
-            &self.standing,
-            self.place - 1,
-        )?;
         let first = first_unmet(&self.history, self.wanted.as_slice());
         self.wanted.clear();
         Ok(first)
@@ -324,6 +369,7 @@ fn first_place(pass: Pass) -> Result<Option<usize>, Memory>
     let mut pass = pass;
     while pass.place < pass.lines.len() {
         pass.step()?;
+        pass.look()?;
         if pass.ends() {
             if let Some(place) = pass.end_turn()? {
                 return Ok(Some(place));

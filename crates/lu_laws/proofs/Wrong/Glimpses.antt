@@ -131,20 +131,20 @@ pub after_it_was_told : Breaks after_it_was_told_past
 unfolding position_of below_of stripe_of offset_of greatest_end
 after_it_was_told = says_no (decide after_it_was_told_past) refl
 
--- it had this size between two lines of a turn, but not at its end
-abbrev pub amid_a_turn_past : Past
-amid_a_turn_past =
-    client 13 1 (entry.Told 0 (turn 13 (Client 1)) (told.Sizes (9 ∷ []))) ∷
+-- it had this size between two calls of its turn, but only before the call began
+abbrev pub earlier_in_its_turn_past : Past
+earlier_in_its_turn_past =
+    client 13 0 (entry.Told 2 (turn 13 (Client 0)) (told.Sizes (9 ∷ []))) ∷
+    client 12 0 (entry.Begin 2 (call.Glimpse 0)) ∷
     client 12 0 (entry.Told 1 (turn 12 (Client 0)) told.Done) ∷
     client 12 0 (entry.Begin 1 (call.Cut 0 2)) ∷
     client 12 0 (entry.Told 0 (turn 12 (Client 0)) told.Done) ∷
     client 12 0 (entry.Begin 0 (call.Cut 0 9)) ∷
-    client 11 1 (entry.Begin 0 (call.Glimpse 0)) ∷
     written
 
-pub amid_a_turn : Breaks amid_a_turn_past
+pub earlier_in_its_turn : Breaks earlier_in_its_turn_past
 unfolding position_of below_of stripe_of offset_of greatest_end
-amid_a_turn = says_no (decide amid_a_turn_past) refl
+earlier_in_its_turn = says_no (decide earlier_in_its_turn_past) refl
 
 -- the sizes of two stripes stand in the wrong order
 abbrev pub order_of_stripes_past : Past
@@ -237,6 +237,36 @@ at_the_end_of_the_turn_past =
 pub at_the_end_of_the_turn : Keeps at_the_end_of_the_turn_past
 unfolding position_of below_of stripe_of offset_of greatest_end
 at_the_end_of_the_turn = says_yes (decide at_the_end_of_the_turn_past) refl
+
+-- it had this size between two calls of a turn, though not at its end
+abbrev pub amid_a_turn_past : Past
+amid_a_turn_past =
+    client 13 1 (entry.Told 0 (turn 13 (Client 1)) (told.Sizes (9 ∷ []))) ∷
+    client 12 0 (entry.Told 1 (turn 12 (Client 0)) told.Done) ∷
+    client 12 0 (entry.Begin 1 (call.Cut 0 2)) ∷
+    client 12 0 (entry.Told 0 (turn 12 (Client 0)) told.Done) ∷
+    client 12 0 (entry.Begin 0 (call.Cut 0 9)) ∷
+    client 11 1 (entry.Begin 0 (call.Glimpse 0)) ∷
+    written
+
+pub amid_a_turn : Keeps amid_a_turn_past
+unfolding position_of below_of stripe_of offset_of greatest_end
+amid_a_turn = says_yes (decide amid_a_turn_past) refl
+
+-- it had this size when the call began, between two calls of that turn
+abbrev pub begun_amid_a_turn_past : Past
+begun_amid_a_turn_past =
+    client 12 0 (entry.Told 2 (turn 12 (Client 0)) (told.Sizes (9 ∷ []))) ∷
+    client 12 0 (entry.Told 1 (turn 12 (Client 0)) told.Done) ∷
+    client 12 0 (entry.Begin 2 (call.Glimpse 0)) ∷
+    client 12 0 (entry.Begin 1 (call.Cut 0 2)) ∷
+    client 12 0 (entry.Told 0 (turn 12 (Client 0)) told.Done) ∷
+    client 12 0 (entry.Begin 0 (call.Cut 0 9)) ∷
+    written
+
+pub begun_amid_a_turn : Keeps begun_amid_a_turn_past
+unfolding position_of below_of stripe_of offset_of greatest_end
+begun_amid_a_turn = says_yes (decide begun_amid_a_turn_past) refl
 
 -- the life that wrote the bytes is evicted only while the call stands
 abbrev pub before_it_was_gone_past : Past

@@ -1,9 +1,9 @@
 -- Law of glimpses: what a `glimpse` tells of the sizes of a file's objects (this project's profile).
 --
 -- At `sizes` that a life which isn't gone is told, each number, the first for stripe 0 of the file, is one of two
--- things: the size of the stripe's object by the plain machine, over the trace cut after some turn from that of the
--- `begin` to this one; or the number of a `peek` line since the `begin`, under a lock on that object, of a life that
--- some target had evicted before that line.
+-- things: the size of the stripe's object by the plain machine, over the trace cut at some moment from the `begin` to
+-- the end of this turn (after a turn, or right after a line by which some call begins or is told); or the number of a
+-- `peek` line since the `begin`, under a lock on that object, of a life that some target had evicted before that line.
 --
 -- A number past the last stripe is measured by an object without bytes; that each stripe has a number isn't asked.
 -- `out` are the lives that are gone in the whole trace.
@@ -23,7 +23,7 @@ use Rattle.lu_laws.specs.Words.Lives.{who_is, is_gone}
 use Rattle.lu_laws.specs.Words.Calls.{Begun, open_call, file_of}
 use Rattle.lu_laws.specs.Words.Glimpses.{to_turn_end, cuts, machine_cut, has_size, peeked}
 
--- after one of these turns the object had this size, or a life that was gone answered so
+-- at one of these moments the object had this size, or a life that was gone answered so
 abbrev pub is_size : List Machine → Past → ℕ → ℕ → Option Fid → ℕ → ℕ → Bool
 is_size machines past c slot file stripe size =
     list_any (has_size file stripe size) machines || list_any (nat_eq size) (peeked c slot file stripe past)
@@ -35,7 +35,7 @@ AreSizes machines past c slot file stripe (n ∷ ns) =
     (is_size machines past c slot file stripe n ≡ true) × AreSizes machines past c slot file (suc stripe) ns
 
 module _ (out : Who → Bool) (osts : ℕ) where
-  -- the machine after each turn from the begin to this one
+  -- the machine at each moment from the begin to the end of this turn
   abbrev pub machines : Past → Line → List Line → ℕ → ℕ → List Machine
   machines past l later c slot = map (machine_cut osts) (to_turn_end l.at later (l ∷ past) ∷ cuts c slot l.at past)
 

@@ -1,13 +1,14 @@
--- What a glimpse may tell (this project's profile): the trace as it was after each turn in which the call stood in its
--- slot, and what lives that were gone answered meanwhile. Which lives are gone and which transactions are lost is asked
--- of each such trace.
-use Rattle.std.specs.Prelude.{ℕ, Bool, true, false, ◌==◌, ◌&&◌, if◌then◌else◌, Option, Some, None, List, [], ◌∷◌}
+-- What a glimpse may tell (this project's profile): the trace as it was at each moment while the call stood in its slot,
+-- and what lives that were gone answered meanwhile. A moment is the end of a turn; and within a turn, in which a client
+-- may go on with several calls, right after each line by which a call begins or is told. Which lives are gone and which
+-- transactions are lost is asked of each such trace.
+use Rattle.std.specs.Prelude.{ℕ, Bool, true, false, not, ◌==◌, ◌&&◌, if◌then◌else◌, Option, Some, None, List, [], ◌∷◌}
 use Rattle.lu_base.specs.declared.ids.At.{At}
 use Rattle.lu_base.specs.declared.ids.Fid.{Fid}
 use Rattle.lu_base.specs.declared.ids.Node.{Node}
 use Rattle.lu_base.specs.declared.ids.Node.TheVariants.{Client, Target}
 use Rattle.lu_base.specs.declared.locks.Lock.{Lock as LockOf}
-use Rattle.lu_trace.specs.declared.entries.Entry.TheVariants.{Begin, Peek}
+use Rattle.lu_trace.specs.declared.entries.Entry.TheVariants.{Begin, Told, Peek}
 use Rattle.lu_trace.specs.declared.entries.Line.{Line}
 use Rattle.lu_machine.specs.Machine.{Machine, object_of}
 use Rattle.lu_machine.specs.Objects.{object_size}
@@ -18,7 +19,7 @@ use Rattle.lu_laws.specs.Words.Lost.{is_lost}
 use Rattle.lu_laws.specs.Words.Seen.{lock_with}
 use Rattle.lu_laws.specs.Words.Histories.{machine_of}
 
--- ---- the traces cut after a turn
+-- ---- the traces cut at a moment
 
 -- the past with the lines that follow it in its turn
 abbrev pub to_turn_end : At → List Line → Past → Past
@@ -29,17 +30,25 @@ to_turn_end at (l ∷ later) past = if same_turn l.at at then to_turn_end at lat
 abbrev pub begins : ℕ → ℕ → Line → Bool
 begins c slot l = elim l.entry [ Begin other call ↦ is_client c l.at.node && other == slot | _ ↦ false ]
 
--- the past is cut after a turn where the next line is of another turn
+-- a call begins or is told: after such a line no change is under way that its client makes
+abbrev pub is_moment : Line → Bool
+is_moment l = elim l.entry [ Begin slot call ↦ true | Told slot turn answer ↦ true | _ ↦ false ]
+
+-- nobody looks between the line and the next one, which is of this turn
+abbrev pub goes_on : Line → At → Bool
+goes_on l next = same_turn l.at next && not (is_moment l)
+
+-- the past is cut where it doesn't just go on
 abbrev pub with_cut : Bool → Past → List Past → List Past
 with_cut true past cuts = cuts
 with_cut false past cuts = past ∷ cuts
 
--- the past cut after each turn since the slot's last call began, the newest first; `next` is the turn of the line that
+-- the past cut at each moment since the slot's last call began, the newest first; `next` is the turn of the line that
 -- follows
 abbrev pub cuts : ℕ → ℕ → At → Past → List Past
 cuts c slot next [] = []
 cuts c slot next (l ∷ past) =
-    with_cut (same_turn l.at next) (l ∷ past) (if begins c slot l then [] else cuts c slot l.at past)
+    with_cut (goes_on l next) (l ∷ past) (if begins c slot l then [] else cuts c slot l.at past)
 
 -- ---- the size of an object
 
