@@ -322,7 +322,7 @@ widens_go at before slot p n r w k s good short =
 
 -- ---- a narrow read
 
-any_true : {A : Type 0} (f : A → Bool) (xs : List A) → list_any f xs ≡ true → (x : A) × In x xs × (f x ≡ true)
+pub any_true : {A : Type 0} (f : A → Bool) (xs : List A) → list_any f xs ≡ true → (x : A) × In x xs × (f x ≡ true)
 any_true f [] e = absurd (cc)
 any_true {A} f (x ∷ xs) e = by (f x) refl e (any_true f xs)
   where
@@ -330,7 +330,7 @@ any_true {A} f (x ∷ xs) e = by (f x) refl e (any_true f xs)
     by true t e more = (x, inl refl, t)
     by false t e more = let r = more e in (r.0, inr r.1, r.2)
 
-reached_is : (l : Raid0) (e : ℕ) (us : List Using) (s : Store) → has_reached l e us s ≡ true → (u : Using) × In u us × (u.want.resource.stripe ≡ stripe_of l e) × (reached_under (offset_of l e) u s ≡ true)
+pub reached_is : (l : Raid0) (e : ℕ) (us : List Using) (s : Store) → has_reached l e us s ≡ true → (u : Using) × In u us × (u.want.resource.stripe ≡ stripe_of l e) × (reached_under (offset_of l e) u s ≡ true)
 reached_is l e [] s t = absurd (cc)
 reached_is l e (u ∷ us) s t = by (u.want.resource.stripe == stripe_of l e) refl t (reached_is l e us s)
   where

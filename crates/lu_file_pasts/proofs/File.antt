@@ -1,30 +1,26 @@
 -- The file's bytes are those of its stripes, and each read of the file is right, through whatever layout.
-use Rattle.lu_object_story.specs.History.{IsSize}
-use Rattle.std.proofs.lemmas.Bool.{and_parts}
-use Rattle.std.proofs.Common.{◌≡◌, ℕ, suc, zero, ◌<◌, ◌≤◌, ◌+◌, ◌-◌, ◌⊎◌, inl, inr, ⊎_elim, List, [], ◌∷◌, length, min, max, Option, Some, None, Bool, true, false, refl, sym, ap, ◌∙◌, subst, arith}
+use Rattle.std.proofs.Common.{◌≡◌, ℕ, suc, zero, ◌<◌, ◌≤◌, ◌+◌, ◌-◌, ◌⊎◌, ⊎_elim, List, [], ◌∷◌, length, min, Option, Some, None, Bool, true, false, refl, sym, ap, ◌∙◌, subst, arith}
 use Rattle.std.specs.Prelude.{nat_eq, nat_lt, if◌then◌else◌, ◌&&◌, not}
-use Rattle.std.proofs.lemmas.Bool.{eqb-true, eqb-false, eq-eqb, ne_eqb, both_ways, ltb-true, ltb-false}
+use Rattle.std.proofs.lemmas.Bool.{eqb-true, eqb-false, both_ways, ltb-true, ltb-false}
 use Rattle.std.proofs.lemmas.Bool.Decides.{nat_tests}
-use Rattle.lu_object_story.specs.Words.{Lock, Change, Write, Cut, Op, Enqueue, Get, Flush, Size, Request, Call, Entry, Flies as Flew, Takes, Heard, Hold, Drop, Forgets, Tells as Told, Grant, Wait, Promote, Acts, Txn, Release, Evict as Evicted, Commit as Committed, Close as Closed, Send as Sends, overlay, within, value, after_at, covers}
-use Rattle.lu_object_story.specs.Folds.{object, pending, dirty, known, is_some, over, base, HeldBy}
-use Rattle.lu_object_story.specs.History.{plain, history, size_of, piece_item, told_item}
+use Rattle.lu_object_story.specs.Words.{Change, Write, Cut, Op, Enqueue, Get, Flush, Size, Request, Call, Entry, Flies as Flew, Takes, Heard, Hold, Drop, Forgets, Tells as Told, Grant, Wait, Promote, Acts, Txn, Release, Evict as Evicted, Commit as Committed, Close as Closed, Send as Sends, overlay, within, value, after_at}
+use Rattle.lu_object_story.specs.Folds.{object}
+use Rattle.lu_object_story.specs.History.{plain, history, piece_item}
 use Rattle.lu_object_story.specs.History
-use Rattle.lu_object_story.specs.Guards.{EndAt, ShownAt, in_run}
-use Rattle.lu_object_story.proofs.Spot.{run_some, run_out, run_bounds, reads_value, over_none, over_some}
-use Rattle.lu_object_story.proofs.Facts.{Outs}
-use Rattle.lu_object_story.proofs.Ends.{Bounds, hides, covers_on}
-use Rattle.lu_object_story.proofs.Views.{covered, size_is, same_end, none_some}
-use Rattle.lu_object_story.proofs.Narrow.{shown_reach}
-use Rattle.lu_object_story.proofs.World.{Later, World, world}
+use Rattle.lu_object_story.proofs.Spot.{run_out, run_bounds}
+use Rattle.lu_object_story.proofs.World.{world}
 use Rattle.lu_object_pasts.specs.Words.{Line, Knows, Serves, Flies, Lives, Tells, Over, Joins, Queue, Serve, Works, Evict, Commit, Crash, Boot, Close, Send}
 use Rattle.lu_object_pasts.specs.Folds.{evicted, over as ended, Kept}
 use Rattle.lu_object_pasts.specs.Only.{live}
 use Rattle.lu_object_pasts.specs.Guards.{AllOk}
 use Rattle.lu_object_pasts.specs.History as Wholes
-use Rattle.lu_object_pasts.specs.History.{gone, told_items, served_items}
+use Rattle.lu_object_pasts.specs.History.{gone, told_items}
 use Rattle.lu_object_pasts.proofs.Only.{kept_only, projection}
 use Rattle.lu_object_pasts.proofs.Laws.{GoneOut, gone_less, same_items, outs_here, evicted_gone, over_gone, kept_none}
-use Rattle.lu_file_pasts.specs.File.{Places, Layout, nth, run_bytes, run, written, part, did, does_at, does, Step, Own, Changes, Reads, Stats, lines, story, Item, Made, Read, Stat, piece, served, lost_at, own_items, items, changed, bytes, seen, file_read, top, tops, IsFileSize, Right, none_lost, FileHistory, known_at, WideOk, NarrowOk, StatOk, Elsewhere, StepsOk}
+use Rattle.lu_file_pasts.specs.Layouts.{Layout}
+use Rattle.lu_file_pasts.specs.File.{Places, nth, run_bytes, run, written, part, did, does_at, does, Step, Own, Changes, Reads, Stats, lines, story, Item, Made, Read, Stat, piece, served, lost_at, own_items, items, changed, bytes, seen, file_read, IsFileSize, Right, none_lost, FileHistory, WideOk, NarrowOk, StatOk, Elsewhere, StepsOk}
+use Rattle.lu_file_pasts.proofs.Stripes as stripes
+use Rattle.lu_file_pasts.proofs.Stripes.{Stripe}
 
 -- ---- the lines are allowed
 
@@ -232,266 +228,35 @@ same w out lost (Stats y c z ∷ h) i q ok = by (out c) ∙ same w out lost h i 
 abbrev pub FileKept : Places → (ℕ → Bool) → (ℕ → ℕ → Bool) → List Step → Type 0
 FileKept w out lost h = (i : ℕ) → Kept (w.target i) out (lost (w.target i)) (lines w h)
 
--- of stripe i: what holds of its allowed story, for what may be lost later too; whoever the story says was evicted is out;
--- and the plain bytes of the stripe's lines are those of its story
-pub record Stripe (w : Places) (out : ℕ → Bool) (lost : ℕ → ℕ → Bool) (h : List Step) (i : ℕ) : Type 0 where
-  pub all : World (story w i h)
-  pub later : Later out (lost (w.target i)) (story w i h)
-  pub outs : Outs out (story w i h)
-  pub is : (q : ℕ) → plain (stripe_items w out lost i h) q ≡ plain (history out (lost (w.target i)) (story w i h)) q
-
-stripe_of : (w : Places) (out : ℕ → Bool) (lost : ℕ → ℕ → Bool) (h : List Step) (i : ℕ) → StepsOk w h → GoneOut out (lines w h) → FileKept w out lost h → Stripe w out lost h i
+stripe_of : (w : Places) (out : ℕ → Bool) (lost : ℕ → ℕ → Bool) (h : List Step) (i : ℕ) → StepsOk w h → GoneOut out (lines w h) → FileKept w out lost h → Stripe out (lost (w.target i)) (story w i h)
 stripe_of w out lost h i ok s k =
     let all = lines_ok w h ok in
     let al = world (story w i h) (projection (lines w h) all (w.target i) (w.object i)) in
     let outs = outs_here (w.target i) (w.object i) out (lines w h) all s in
-    record {
-      all = al;
-      later = al.later out (lost (w.target i)) outs (kept_only (w.target i) (w.object i) out (lost (w.target i)) (lines w h) all (k i));
-      outs = outs;
-      is = λ q. ap (λ (is : List History.Item). plain is q) (sym (same_items out (lost (w.target i)) (w.target i) (w.object i) (lines w h) all s));
-    }
+    record { all = al; later = al.later out (lost (w.target i)) outs (kept_only (w.target i) (w.object i) out (lost (w.target i)) (lines w h) all (k i)); outs = outs }
 
-stripe_view : (w : Places) (out : ℕ → Bool) (lost : ℕ → ℕ → Bool) (h : List Step) (i c q : ℕ) (l : Lock) → Stripe w out lost h i → out c ≡ false
-    → HeldBy (story w i h) l → l.life ≡ c → covers l q ≡ true
-    → plain (stripe_items w out lost i h) q ≡ over (pending c (story w i h)) (dirty c (story w i h) q) q (object (lost (w.target i)) (story w i h) q)
-stripe_view w out lost h i c q l st o held life cov = st.is q ∙ covered out (lost (w.target i)) (story w i h) c q l st.outs st.all.numbers st.all.locks st.all.patches st.later.views o held life cov
+-- the file's bytes are the plain ones of the stripe's story
+of_story : (w : Places) (out : ℕ → Bool) (lost : ℕ → ℕ → Bool) (h : List Step) (i q : ℕ) → StepsOk w h → GoneOut out (lines w h) → bytes w (items out lost h) i q ≡ plain (history out (lost (w.target i)) (story w i h)) q
+of_story w out lost h i q ok s =
+    same w out lost h i q ok ∙ ap (λ (is : List History.Item). plain is q) (sym (same_items out (lost (w.target i)) (w.target i) (w.object i) (lines w h) (lines_ok w h ok) s))
 
-stripe_bounds : (w : Places) (out : ℕ → Bool) (lost : ℕ → ℕ → Bool) (h : List Step) (i c at z : ℕ) → Stripe w out lost h i → out c ≡ false
-    → (u : EndAt (story w i h) c at z) → Bounds (lost (w.target i)) (story w i h) u.lock.first u.end (hides (story w i h) c)
-stripe_bounds w out lost h i c at z st o u = subst (λ (d : ℕ). Bounds (lost (w.target i)) (story w i h) u.lock.first u.end (hides (story w i h) d)) u.life (st.later.ends.kept u.lock u.end u.held (ap out u.life ∙ o) u.last u.known)
+-- ---- reads and stats
 
-end_view : (w : Places) (out : ℕ → Bool) (lost : ℕ → ℕ → Bool) (h : List Step) (i c at z q : ℕ) → Stripe w out lost h i → out c ≡ false
-    → EndAt (story w i h) c at z → at ≤ q
-    → plain (stripe_items w out lost i h) q ≡ over (pending c (story w i h)) (dirty c (story w i h) q) q (object (lost (w.target i)) (story w i h) q)
-end_view w out lost h i c at z q st o u low = let f = u.first in stripe_view w out lost h i c q u.lock st o u.held u.life (covers_on u.lock q u.last (omega arith))
-
-stripe_none : (w : Places) (out : ℕ → Bool) (lost : ℕ → ℕ → Bool) (h : List Step) (i c at z q : ℕ) → Stripe w out lost h i → out c ≡ false → EndAt (story w i h) c at z → at ≤ q → z ≤ q → plain (stripe_items w out lost i h) q ≡ None
-stripe_none w out lost h i c at z q st o u low high =
-    let f = u.first in
-    let b = u.over.0 in
-    let k = stripe_bounds w out lost h i c at z st o u in
-    end_view w out lost h i c at z q st o u low ∙ over_none (pending c (story w i h)) (dirty c (story w i h) q) u.end q (object (lost (w.target i)) (story w i h) q) (u.over.1 q high) (omega arith) (λ x j. k.none q (omega arith) x j)
-
-stripe_some : (w : Places) (out : ℕ → Bool) (lost : ℕ → ℕ → Bool) (h : List Step) (i c at z q : ℕ) → Stripe w out lost h i → out c ≡ false
-    → EndAt (story w i h) c at z → at ≤ q → suc q ≡ z → is_some (plain (stripe_items w out lost i h) q) ≡ true
-stripe_some w out lost h i c at z q st o u low is =
-    let f = u.first in
-    let k = stripe_bounds w out lost h i c at z st o u in
-    ap is_some (end_view w out lost h i c at z q st o u low) ∙ over_some (pending c (story w i h)) (dirty c (story w i h) q) u.end q (object (lost (w.target i)) (story w i h) q) (edge u.over.2) (λ x j. k.some q (omega arith) x j)
-  where
-    edge : (z ≡ base (pending c (story w i h)) u.end) ⊎ ((r : ℕ) × (suc r ≡ z) × (is_some (dirty c (story w i h) r) ≡ true)) → (suc q ≡ base (pending c (story w i h)) u.end) ⊎ (is_some (dirty c (story w i h) q) ≡ true)
-    edge (inl e) = inl (is ∙ e)
-    edge (inr (r, e, f)) = let it : r ≡ q = omega arith in inr (subst (λ (m : ℕ). is_some (dirty c (story w i h) m) ≡ true) it f)
-
-read_is : (w : Places) (y : Layout) (is : List Item) (at : ℕ) (vs : List ℕ) (n : ℕ) → length vs ≡ n → ((p v : ℕ) → overlay at vs p None ≡ Some v → value (seen w y is p) ≡ v) → vs ≡ file_read w y is at n
-read_is w y is at [] zero e each = refl
-read_is w y is at [] (suc n) e each = absurd (omega arith)
-read_is w y is at (v ∷ vs) zero e each = absurd (omega arith)
-read_is w y is at (v ∷ vs) (suc n) e each = rw (each at v (rw (eq-eqb at at refl)), ← read_is w y is (suc at) vs n (omega arith) later)
-  where
-    later : (p u : ℕ) → overlay (suc at) vs p None ≡ Some u → value (seen w y is p) ≡ u
-    later p u o =
-        let low = (run_bounds (suc at) vs p (run_some (suc at) vs p u o)).0 in
-        each p u (rw (ne_eqb at p (λ q. absurd (omega arith))) o)
-
--- ---- ends
-
-cap_low : (y : Layout) (i e : ℕ) → y.cap i e ≤ e
-cap_low y i e = by (nat_lt e (y.cap i e)) refl
-  where
-    by : (v : Bool) → nat_lt e (y.cap i e) ≡ v → y.cap i e ≤ e
-    by false f = ltb-false e (y.cap i e) f
-    by true f = absurd (let a = (and_parts (nat_lt e e) (y.has i e) (sym (y.cap_is i e e) ∙ f)).0 in let b = ltb-true e e a in omega arith)
-
-cap_has : (y : Layout) (i e q : ℕ) → q < y.cap i e → y.has i q ≡ true
-cap_has y i e q low = (and_parts (nat_lt q e) (y.has i q) (sym (y.cap_is i e q) ∙ is_below q (y.cap i e) low)).1
-  where
-    is_below : (a b : ℕ) → a < b → nat_lt a b ≡ true
-    is_below a b l = grind (arith, nat_tests)
-
--- an end at or below the first offset past a position is at or below the position
-top_low : (y : Layout) (i at e : ℕ) → e ≤ y.below i at → top y i e ≤ at
-top_low y i at zero low = omega arith
-top_low y i at (suc q) low =
-    let a = ltb-true (y.position i q) at (sym (y.below_is i at q (y.below_has i at q (omega arith))) ∙ is_below q (y.below i at) (omega arith)) in
-    omega arith
-  where
-    is_below : (a b : ℕ) → a < b → nat_lt a b ≡ true
-    is_below a b l = grind (arith, nat_tests)
-
--- two ends of a stripe that agree past a position agree there for the file
-tail_one : (y : Layout) (i at e s : ℕ) → (y.below i at < e → e ≤ s) → (y.below i at < s → s ≤ e) → (top y i (y.cap i e) - at) ≡ (top y i (y.cap i s) - at)
-tail_one y i at e s a b = by (nat_lt (y.below i at) e) refl (nat_lt (y.below i at) s) refl
-  where
-    equal : e ≡ s → (top y i (y.cap i e) - at) ≡ (top y i (y.cap i s) - at)
-    equal q = ap (λ (k : ℕ). top y i (y.cap i k) - at) q
-
-    by : (v : Bool) → nat_lt (y.below i at) e ≡ v → (x : Bool) → nat_lt (y.below i at) s ≡ x → (top y i (y.cap i e) - at) ≡ (top y i (y.cap i s) - at)
-    by true f x g = let c = ltb-true (y.below i at) e f in let d = a c in equal (let k = b (omega arith) in omega arith)
-    by false f true g = let c = ltb-true (y.below i at) s g in let d = b c in equal (let k = a (omega arith) in omega arith)
-    by false f false g =
-        let c = ltb-false (y.below i at) e f in
-        let d = ltb-false (y.below i at) s g in
-        let l1 = cap_low y i e in
-        let l2 = cap_low y i s in
-        let t1 = top_low y i at (y.cap i e) (omega arith) in
-        let t2 = top_low y i at (y.cap i s) (omega arith) in
-        omega arith
-
--- a stripe that has no offset past the position ends below it
-tail_none : (y : Layout) (i at e s : ℕ) → y.has i (y.below i at) ≡ false → (top y i (y.cap i e) - at) ≡ (top y i (y.cap i s) - at)
-tail_none y i at e s none = let t1 = top_low y i at (y.cap i e) (low e) in let t2 = top_low y i at (y.cap i s) (low s) in omega arith
-  where
-    low : (k : ℕ) → y.cap i k ≤ y.below i at
-    low k = by (nat_lt (y.below i at) (y.cap i k)) refl
-      where
-        by : (v : Bool) → nat_lt (y.below i at) (y.cap i k) ≡ v → y.cap i k ≤ y.below i at
-        by false f = ltb-false (y.below i at) (y.cap i k) f
-        by true f = absurd (both_ways (y.has i (y.below i at)) none (cap_has y i k (y.below i at) (ltb-true (y.below i at) (y.cap i k) f)))
-
-tails : (y : Layout) (at : ℕ) (ends sizes : ℕ → ℕ) (k : ℕ) → ((i : ℕ) → i < k → (top y i (y.cap i (ends i)) - at) ≡ (top y i (y.cap i (sizes i)) - at)) → (tops y ends k - at) ≡ (tops y sizes k - at)
-tails y at ends sizes zero f = refl
-tails y at ends sizes (suc k) f = let a = tails y at ends sizes k (λ i l. f i (omega arith)) in let b = f k (omega arith) in omega arith
-
-tops_same : (y : Layout) (ends sizes : ℕ → ℕ) (k : ℕ) → ((i : ℕ) → i < k → ends i ≡ sizes i) → tops y ends k ≡ tops y sizes k
-tops_same y ends sizes zero f = refl
-tops_same y ends sizes (suc k) f = let a = tops_same y ends sizes k (λ i l. f i (omega arith)) in let b = ap (λ (e : ℕ). top y k (y.cap k e)) (f k (omega arith)) in omega arith
-
-tops_above : (y : Layout) (ends : ℕ → ℕ) (k t : ℕ) → t < k → top y t (y.cap t (ends t)) ≤ tops y ends k
-tops_above y ends zero t low = absurd (omega arith)
-tops_above y ends (suc k) t low = by (nat_eq t k) refl (tops_above y ends k t)
-  where
-    by : (v : Bool) → nat_eq t k ≡ v → (t < k → top y t (y.cap t (ends t)) ≤ tops y ends k) → top y t (y.cap t (ends t)) ≤ max (tops y ends k) (top y k (y.cap k (ends k)))
-    by true e ih = let s : top y t (y.cap t (ends t)) ≡ top y k (y.cap k (ends k)) = ap (λ (j : ℕ). top y j (y.cap j (ends j))) (eqb-true t k e) in omega arith
-    by false e ih = let ne = eqb-false t k e in let i = ih (grind arith) in omega arith
-
--- ---- the sizes of the objects
-sizes_are : (w : Places) (out : ℕ → Bool) (lost : ℕ → ℕ → Bool) (h : List Step) → StepsOk w h → (i : ℕ) → IsSize (λ q. bytes w (items out lost h) i q) (size_of (stripe_items w out lost i h))
-sizes_are w out lost h ok i =
-    let z = size_is (stripe_items w out lost i h) in
-    (λ q l. same w out lost h i q ok ∙ z.0 q l, λ q e n. none_some (plain (stripe_items w out lost i h) q) (sym (same w out lost h i q ok) ∙ n) (z.1 q e))
-
--- what a holder to the end knows, from a position on
-known_end : (w : Places) (out : ℕ → Bool) (lost : ℕ → ℕ → Bool) (h : List Step) (i c at e : ℕ) → Stripe w out lost h i → out c ≡ false
-    → EndAt (story w i h) c at e
-    → (at < e → e ≤ size_of (stripe_items w out lost i h)) × (at < size_of (stripe_items w out lost i h) → size_of (stripe_items w out lost i h) ≤ e)
-known_end w out lost h i c at e st o u =
-    let z = size_is (stripe_items w out lost i h) in (
-      same_end (λ q. plain (stripe_items w out lost i h) q) at (size_of (stripe_items w out lost i h)) e (λ q l j. z.0 q j) (λ q l j. stripe_some w out lost h i c at e q st o u l j),
-      same_end (λ q. plain (stripe_items w out lost i h) q) at e (size_of (stripe_items w out lost i h)) (λ q l j. stripe_none w out lost h i c at e q st o u l j) (λ q l j. z.1 q j),
-    )
-
--- ---- a read under locks to the end
 wide_right : (w : Places) (y : Layout) (out : ℕ → Bool) (lost : ℕ → ℕ → Bool) (h : List Step) (c at n : ℕ) (vs : List ℕ) → StepsOk w h
     → GoneOut out (lines w h) → FileKept w out lost h → out c ≡ false → WideOk w y h c at n vs
     → (z : ℕ) × IsFileSize w y (items out lost h) z × (vs ≡ file_read w y (items out lost h) at (min n (z - at)))
-wide_right w y out lost h c at n vs ok s k o u = (tops y (λ i. size_of (stripe_items w out lost i h)) y.stripes, ((λ i. size_of (stripe_items w out lost i h)), sizes_are w out lost h ok, refl), read_is w y (items out lost h) at vs (min n (tops y (λ i. size_of (stripe_items w out lost i h)) y.stripes - at)) (u.count ∙ ap (λ (j : ℕ). min n j) tail_same) each)
-  where
-    st : (i : ℕ) → Stripe w out lost h i
-    st i = stripe_of w out lost h i ok s k
+wide_right w y out lost h c at n vs ok s k o u =
+    stripes.wide_right out (λ i. lost (w.target i)) (λ i. story w i h) (bytes w (items out lost h)) (λ i. stripe_of w out lost h i ok s k) (λ i q. of_story w out lost h i q ok s) y c at n vs o u
 
-    one : (i : ℕ) → i < y.stripes → (v : Bool) → y.has i (y.below i at) ≡ v → (top y i (y.cap i (u.ends i)) - at) ≡ (top y i (y.cap i (size_of (stripe_items w out lost i h))) - at)
-    one i low false e = tail_none y i at (u.ends i) (size_of (stripe_items w out lost i h)) e
-    one i low true e = let z = known_end w out lost h i c (y.below i at) (u.ends i) (st i) o (u.locks i low e) in tail_one y i at (u.ends i) (size_of (stripe_items w out lost i h)) z.0 z.1
-
-    tail_same : (tops y u.ends y.stripes - at) ≡ (tops y (λ i. size_of (stripe_items w out lost i h)) y.stripes - at)
-    tail_same = tails y at u.ends (λ i. size_of (stripe_items w out lost i h)) y.stripes (λ i low. one i low (y.has i (y.below i at)) refl)
-
-    -- the offset of a position at or past the first is at or past the first of its stripe
-    starts : (p : ℕ) → at ≤ p → y.below (y.stripe p) at ≤ y.offset p
-    starts p low = by (nat_lt (y.offset p) (y.below (y.stripe p) at)) refl
-      where
-        by : (v : Bool) → nat_lt (y.offset p) (y.below (y.stripe p) at) ≡ v → y.below (y.stripe p) at ≤ y.offset p
-        by false e = ltb-false (y.offset p) (y.below (y.stripe p) at) e
-        by true e = absurd (let a = ltb-true (y.position (y.stripe p) (y.offset p)) at (sym (y.below_is (y.stripe p) at (y.offset p) (y.inside p)) ∙ e) in let b = y.there p in omega arith)
-
-    lock : (p : ℕ) → at ≤ p → EndAt (story w (y.stripe p) h) c (y.below (y.stripe p) at) (u.ends (y.stripe p))
-    lock p low = u.locks (y.stripe p) (y.low p) (y.begins (y.stripe p) (y.below (y.stripe p) at) (y.offset p) (y.inside p) (starts p low))
-
-    each : (p v : ℕ) → overlay at vs p None ≡ Some v → value (seen w y (items out lost h) p) ≡ v
-    each p v i = by (u.each p v i)
-      where
-        low : at ≤ p
-        low = (run_bounds at vs p (run_some at vs p v i)).0
-
-        by : known_at w y h c p v ⊎ ((u.ends (y.stripe p) ≤ y.offset p) × (v ≡ 0)) → value (seen w y (items out lost h) p) ≡ v
-        by (inl e) =
-            ap value (same w out lost h (y.stripe p) (y.offset p) ok ∙ end_view w out lost h (y.stripe p) c (y.below (y.stripe p) at) (u.ends (y.stripe p)) (y.offset p) (st (y.stripe p)) o (lock p low) (starts p low))
-            ∙ reads_value (pending c (story w (y.stripe p) h)) (dirty c (story w (y.stripe p) h) (y.offset p)) (known c (story w (y.stripe p) h) (y.offset p)) (y.offset p) v (object (lost (w.target (y.stripe p))) (story w (y.stripe p) h) (y.offset p)) e (λ m j. ((st (y.stripe p)).later.facts.known c (y.offset p) v o j).is m)
-        by (inr e) = ap value (same w out lost h (y.stripe p) (y.offset p) ok ∙ stripe_none w out lost h (y.stripe p) c (y.below (y.stripe p) at) (u.ends (y.stripe p)) (y.offset p) (st (y.stripe p)) o (lock p low) (starts p low) e.0) ∙ sym e.1
-
--- ---- a read under locks over what it asks
 narrow_right : (w : Places) (y : Layout) (out : ℕ → Bool) (lost : ℕ → ℕ → Bool) (h : List Step) (c at n : ℕ) (vs : List ℕ) → StepsOk w h
     → GoneOut out (lines w h) → FileKept w out lost h → out c ≡ false → NarrowOk w y h c at n vs
     → (z : ℕ) × IsFileSize w y (items out lost h) z × (vs ≡ file_read w y (items out lost h) at (min n (z - at)))
-narrow_right w y out lost h c at n vs ok s k o u = (tops y (λ i. size_of (stripe_items w out lost i h)) y.stripes, ((λ i. size_of (stripe_items w out lost i h)), sizes_are w out lost h ok, refl), read_is w y (items out lost h) at vs (min n (tops y (λ i. size_of (stripe_items w out lost i h)) y.stripes - at)) (u.count ∙ all) each)
-  where
-    st : (i : ℕ) → Stripe w out lost h i
-    st i = stripe_of w out lost h i ok s k
+narrow_right w y out lost h c at n vs ok s k o u =
+    stripes.narrow_right out (λ i. lost (w.target i)) (λ i. story w i h) (bytes w (items out lost h)) (λ i. stripe_of w out lost h i ok s k) (λ i q. of_story w out lost h i q ok s) y c at n vs o u
 
-    -- the last stripe's object ends past the last position
-    far : y.offset u.final < size_of (stripe_items w out lost (y.stripe u.final) h)
-    far = ⊎_elim
-        (λ (e : (z : ℕ) × EndAt (story w (y.stripe u.final) h) c (y.offset u.final) z × (y.offset u.final < z)). let a = (known_end w out lost h (y.stripe u.final) c (y.offset u.final) e.0 (st (y.stripe u.final)) o e.1).0 e.2 in let b = e.2 in omega arith)
-        (λ (e : ShownAt (story w (y.stripe u.final) h) c (y.offset u.final)).
-        let x = st (y.stripe u.final) in
-        let r = shown_reach out (lost (w.target (y.stripe u.final))) (story w (y.stripe u.final) h) c (y.offset u.final) x.later.narrows o e in
-        by r.0 r.1 (ap is_some (x.is r.0) ∙ r.2) (nat_lt r.0 (size_of (stripe_items w out lost (y.stripe u.final) h))) refl)
-        u.reached
-      where
-        by : (q : ℕ) → y.offset u.final ≤ q → is_some (plain (stripe_items w out lost (y.stripe u.final) h) q) ≡ true → (v : Bool)
-            → nat_lt q (size_of (stripe_items w out lost (y.stripe u.final) h)) ≡ v
-            → y.offset u.final < size_of (stripe_items w out lost (y.stripe u.final) h)
-        by q l e true f = let a = ltb-true q (size_of (stripe_items w out lost (y.stripe u.final) h)) f in omega arith
-        by q l e false f = absurd (none_some (plain (stripe_items w out lost (y.stripe u.final) h) q) ((size_is (stripe_items w out lost (y.stripe u.final) h)).0 q (ltb-false q (size_of (stripe_items w out lost (y.stripe u.final) h)) f)) e)
-
-    is_below : (a b : ℕ) → a < b → nat_lt a b ≡ true
-    is_below a b l = grind (arith, nat_tests)
-
-    capped : y.offset u.final < y.cap (y.stripe u.final) (size_of (stripe_items w out lost (y.stripe u.final) h))
-    capped = ltb-true (y.offset u.final) (y.cap (y.stripe u.final) (size_of (stripe_items w out lost (y.stripe u.final) h))) (y.cap_is (y.stripe u.final) (size_of (stripe_items w out lost (y.stripe u.final) h)) (y.offset u.final) ∙ rw (is_below (y.offset u.final) (size_of (stripe_items w out lost (y.stripe u.final) h)) far, y.inside u.final))
-
-    -- so the file ends past it
-    past : u.final < tops y (λ i. size_of (stripe_items w out lost i h)) y.stripes
-    past = let a = tops_above y (λ i. size_of (stripe_items w out lost i h)) y.stripes (y.stripe u.final) (y.low u.final) in let b = high (y.cap (y.stripe u.final) (size_of (stripe_items w out lost (y.stripe u.final) h))) refl capped in omega arith
-      where
-        high : (e : ℕ) → y.cap (y.stripe u.final) (size_of (stripe_items w out lost (y.stripe u.final) h)) ≡ e → y.offset u.final < e → u.final < top y (y.stripe u.final) e
-        high zero q l = absurd (omega arith)
-        high (suc e) q l =
-            let has = cap_has y (y.stripe u.final) (size_of (stripe_items w out lost (y.stripe u.final) h)) e (omega arith) in
-            let a = y.rises (y.stripe u.final) (y.offset u.final) e has (omega arith) in
-            let b = y.there u.final in
-            omega arith
-
-    all : n ≡ min n (tops y (λ i. size_of (stripe_items w out lost i h)) y.stripes - at)
-    all = let a = past in let f = u.is_final in omega arith
-
-    each : (p v : ℕ) → overlay at vs p None ≡ Some v → value (seen w y (items out lost h) p) ≡ v
-    each p v i =
-        let b = run_bounds at vs p (run_some at vs p v i) in
-        let b0 = b.0 in
-        let b1 = b.1 in
-        let len = u.count in
-        let within : in_run at n p ≡ true = grind (arith, nat_tests) in
-        let x = st (y.stripe p) in
-        ap value (same w out lost h (y.stripe p) (y.offset p) ok ∙ stripe_view w out lost h (y.stripe p) c (y.offset p) (u.lock p) x o (u.held p within) (u.life p within) (u.covered p within))
-        ∙ reads_value (pending c (story w (y.stripe p) h)) (dirty c (story w (y.stripe p) h) (y.offset p)) (known c (story w (y.stripe p) h) (y.offset p)) (y.offset p) v (object (lost (w.target (y.stripe p))) (story w (y.stripe p) h) (y.offset p)) (u.each p v i) (λ m j. (x.later.facts.known c (y.offset p) v o j).is m)
-
--- ---- a stat under locks on the whole of each object
 stat_right : (w : Places) (y : Layout) (out : ℕ → Bool) (lost : ℕ → ℕ → Bool) (h : List Step) (c z : ℕ) → StepsOk w h → GoneOut out (lines w h) → FileKept w out lost h → out c ≡ false → StatOk w y h c z → IsFileSize w y (items out lost h) z
-stat_right w y out lost h c z ok s k o u = ((λ i. size_of (stripe_items w out lost i h)), sizes_are w out lost h ok, u.size ∙ tops_same y u.ends (λ i. size_of (stripe_items w out lost i h)) y.stripes (λ i low. one i low))
-  where
-    one : (i : ℕ) → i < y.stripes → u.ends i ≡ size_of (stripe_items w out lost i h)
-    one i low =
-        let x = known_end w out lost h i c 0 (u.ends i) (stripe_of w out lost h i ok s k) o (u.locks i low) in
-        both (u.ends i) (size_of (stripe_items w out lost i h)) x.0 x.1
-      where
-        both : (a b : ℕ) → (0 < a → a ≤ b) → (0 < b → b ≤ a) → a ≡ b
-        both zero zero f g = refl
-        both zero (suc b) f g = let x = g (omega arith) in absurd (omega arith)
-        both (suc a) zero f g = let x = f (omega arith) in absurd (omega arith)
-        both (suc a) (suc b) f g = let x = f (omega arith) in let y = g (omega arith) in omega arith
+stat_right w y out lost h c z ok s k o u =
+    stripes.stat_right out (λ i. lost (w.target i)) (λ i. story w i h) (bytes w (items out lost h)) (λ i. stripe_of w out lost h i ok s k) (λ i q. of_story w out lost h i q ok s) y c z o u
 
 -- ---- all steps
 

@@ -12,7 +12,8 @@ use Rattle.lu_object_pasts.specs.Guards.{ServedOk, WorksOk, LivesOk, LineOk}
 use Rattle.lu_object_pasts.proofs.Tied.{live_parts}
 use Rattle.lu_object_pasts.proofs.Only.{whole}
 use Rattle.lu_object_pasts.proofs.Laws.{whole_puts}
-use Rattle.lu_file_pasts.specs.File.{Places, Layout, run, written, part, did, does_at, does, Step, Own, Changes, Reads, Stats, lines, story, StepsOk}
+use Rattle.lu_file_pasts.specs.Layouts.{Layout}
+use Rattle.lu_file_pasts.specs.File.{Places, run, written, part, did, does_at, does, Step, Own, Changes, Reads, Stats, lines, story, StepsOk}
 use Rattle.lu_file_pasts.specs.Puts.{FileWrite, FileCut, FileOrigin, FileOriginOf, PutAt, FilePuts}
 use Rattle.lu_file_pasts.proofs.File.{lines_ok, run_is, length_run}
 

@@ -3,7 +3,8 @@
 use Rattle.std.proofs.Common.{ℕ, suc, zero, ◌+◌, ◌-◌, min, Option, Some, None, true, refl, arith}
 use Rattle.std.specs.Prelude.{nat_eq, nat_lt, if◌then◌else◌}
 use Rattle.std.proofs.lemmas.Bool.Decides.{nat_tests}
-use Rattle.lu_file_pasts.specs.File.{Places, Layout}
+use Rattle.lu_file_pasts.specs.File.{Places}
+use Rattle.lu_file_pasts.specs.Layouts.{Layout}
 
 -- stripe i is object 5 of target i + 1
 pub places : Places

@@ -4,15 +4,14 @@
 -- file, offsets of a stripe's object and sizes are bytes, from 0; stripes are counted from 0. What a write, a cut, a read
 -- and a stat mean is that of POSIX.1 (write, ftruncate, read, fstat); but of a change of a life that is evicted some
 -- stripes may have their part and others not (this project's profile).
-use Rattle.std.specs.Prelude.{◌≡◌, ◌⊎◌, ℕ, zero, suc, ◌<◌, ◌≤◌, ◌+◌, ◌-◌, min, max, length, Bool, true, false, not, ◌&&◌, nat_eq, nat_lt, if◌then◌else◌, List, [], ◌∷◌, Option, Some, None}
-use Rattle.lu_object_story.specs.Words.{Lock, Change, Write, Cut, Op, Flush, Call, Did, Entry, Txn, covers, overlay, value, after_at}
-use Rattle.lu_object_story.specs.Folds.{also, pending, dirty, known, reads_at, HeldBy}
-use Rattle.lu_object_story.specs.History.{IsSize}
-use Rattle.lu_object_story.specs.Guards.{EndAt, ShownAt, in_run}
+use Rattle.std.specs.Prelude.{◌≡◌, ◌⊎◌, ℕ, zero, suc, ◌+◌, ◌-◌, min, length, Bool, true, false, not, ◌&&◌, nat_eq, nat_lt, if◌then◌else◌, List, [], ◌∷◌, Option, Some, None}
+use Rattle.lu_object_story.specs.Words.{Change, Write, Cut, Op, Flush, Call, Did, Entry, Txn, after_at}
+use Rattle.lu_object_story.specs.Folds.{also}
 use Rattle.lu_object_pasts.specs.Words.{Line, Tells, Serve, Close}
 use Rattle.lu_object_pasts.specs.Only.{only, live}
 use Rattle.lu_object_pasts.specs.Guards.{LineOk}
 use Rattle.lu_object_pasts.specs.History.{gone}
+use Rattle.lu_file_pasts.specs.Layouts.{Layout, read_on, IsSizeOn, WideOn, NarrowOn, StatOn}
 
 -- where each stripe of the file lies, whatever the layout: its target and its object; and which stripe an object is, so no
 -- two stripes share one
@@ -21,28 +20,6 @@ pub record Places : Type 0 where
   pub object : ℕ → ℕ
   pub at : ℕ → ℕ → Option ℕ
   pub at_is : (i : ℕ) → at (target i) (object i) ≡ Some i
-
--- a layout of the file. It has these many stripes. `stripe` and `offset`: where a position lies; `position`: the position
--- of an offset of a stripe; `has i q`: it has this offset of the stripe; `below i n`: how many offsets of the stripe lie
--- below position n; `cap i e`: how many of the first e offsets it has. Each position lies on a stripe that it has, at an
--- offset that it has (`low`, `inside`, `there`); on one stripe positions rise with offsets (`rises`), and it has the first
--- offsets of each (`begins`); `below` and `cap` are what they say (`below_is`, `below_has`, `cap_is`)
-pub record Layout : Type 0 where
-  pub stripes : ℕ
-  pub has : ℕ → ℕ → Bool
-  pub stripe : ℕ → ℕ
-  pub offset : ℕ → ℕ
-  pub position : ℕ → ℕ → ℕ
-  pub below : ℕ → ℕ → ℕ
-  pub cap : ℕ → ℕ → ℕ
-  pub low : (p : ℕ) → stripe p < stripes
-  pub inside : (p : ℕ) → has (stripe p) (offset p) ≡ true
-  pub there : (p : ℕ) → position (stripe p) (offset p) ≡ p
-  pub rises : (i q r : ℕ) → has i r ≡ true → q ≤ r → position i q ≤ position i r
-  pub begins : (i q r : ℕ) → has i r ≡ true → q ≤ r → has i q ≡ true
-  pub below_is : (i n q : ℕ) → has i q ≡ true → nat_lt q (below i n) ≡ nat_lt (position i q) n
-  pub below_has : (i n q : ℕ) → q < below i n → has i q ≡ true
-  pub cap_is : (i e q : ℕ) → nat_lt q (cap i e) ≡ (nat_lt q e && has i q)
 
 -- the byte at this place of a list, from 0; 0 behind its end
 abbrev pub nth : List ℕ → ℕ → ℕ
@@ -169,24 +146,11 @@ seen w y is p = bytes w is (y.stripe p) (y.offset p)
 
 -- n bytes from position `at` on through a layout, absent ones as 0
 abbrev pub file_read : Places → Layout → List Item → ℕ → ℕ → List ℕ
-file_read w y is at zero = []
-file_read w y is at (suc n) = value (seen w y is at) ∷ file_read w y is (suc at) n
+file_read w y is at n = read_on y (bytes w is) at n
 
--- one more than the position of the last of the first e offsets of a stripe; 0 for no offset
-abbrev pub top : Layout → ℕ → ℕ → ℕ
-top y i zero = 0
-top y i (suc q) = suc (y.position i q)
-
--- where objects of these sizes end in positions of the file, for the first k stripes: an object that ends past what the
--- layout has of it ends with the last offset that it has
-abbrev pub tops : Layout → (ℕ → ℕ) → ℕ → ℕ
-tops y ends zero = 0
-tops y ends (suc k) = max (tops y ends k) (top y k (y.cap k (ends k)))
-
--- the size of the file through a layout, by the sizes of its objects, which are one more than the last offset with a byte,
--- or 0 (this project's profile: the size is that of the objects' ends)
+-- the size of the file through a layout, by the sizes of its objects
 abbrev pub IsFileSize : Places → Layout → List Item → ℕ → Type 0
-IsFileSize w y is z = (sizes : ℕ → ℕ) × ((i : ℕ) → IsSize (λ q. bytes w is i q) (sizes i)) × (z ≡ tops y sizes y.stripes)
+IsFileSize w y is z = IsSizeOn y (bytes w is) z
 
 -- each read is told the file's bytes where it stands in the history, up to the file's size, and each stat the size
 -- (POSIX.1, read and fstat)
@@ -204,39 +168,15 @@ none_lost t n = false
 abbrev pub FileHistory : Places → List Step → Type 0
 FileHistory w h = Right w (items (λ c. gone c (lines w h)) none_lost h)
 
--- the byte at a position is this, as the life takes it on its stripe: a byte of its own that isn't written back, 0 behind a
--- cut of its own, or what it knows there of the object
-abbrev pub known_at : Places → Layout → List Step → ℕ → ℕ → ℕ → Type 0
-known_at w y h c p v = reads_at (pending c (story w (y.stripe p) h)) (dirty c (story w (y.stripe p) h) (y.offset p)) (known c (story w (y.stripe p) h) (y.offset p)) (y.offset p) ≡ Some v
+-- what a read and a stat rest on: on what the life knows of each stripe by the story of its object
+abbrev pub WideOk : Places → Layout → List Step → (c at n : ℕ) → List ℕ → Type 0
+WideOk w y h c at n vs = WideOn (λ i. story w i h) y c at n vs
 
--- a read under locks to the end of each stripe that has an offset at or past the position, from the first such: it is told
--- as many bytes as lie below the end of the file that is known there, each as it is known, or 0 at or past the end of its
--- object
-pub record WideOk (w : Places) (y : Layout) (h : List Step) (c at n : ℕ) (vs : List ℕ) : Type 0 where
-  pub ends : ℕ → ℕ
-  pub locks : (i : ℕ) → i < y.stripes → y.has i (y.below i at) ≡ true → EndAt (story w i h) c (y.below i at) (ends i)
-  pub count : length vs ≡ min n (tops y ends y.stripes - at)
-  pub each : (p v : ℕ) → overlay at vs p None ≡ Some v → known_at w y h c p v ⊎ ((ends (y.stripe p) ≤ y.offset p) × (v ≡ 0))
+abbrev pub NarrowOk : Places → Layout → List Step → (c at n : ℕ) → List ℕ → Type 0
+NarrowOk w y h c at n vs = NarrowOn (λ i. story w i h) y c at n vs
 
--- a read under locks over what it asks, on each stripe that it touches: all of it, where the last position was reached on
--- its stripe, under a lock to the end of an object that is known to end past it, or since a position at or past it was
--- shown
-pub record NarrowOk (w : Places) (y : Layout) (h : List Step) (c at n : ℕ) (vs : List ℕ) : Type 0 where
-  pub lock : ℕ → Lock
-  pub held : (p : ℕ) → in_run at n p ≡ true → HeldBy (story w (y.stripe p) h) (lock p)
-  pub life : (p : ℕ) → in_run at n p ≡ true → (lock p).life ≡ c
-  pub covered : (p : ℕ) → in_run at n p ≡ true → covers (lock p) (y.offset p) ≡ true
-  pub count : length vs ≡ n
-  pub each : (p v : ℕ) → overlay at vs p None ≡ Some v → known_at w y h c p v
-  pub final : ℕ
-  pub is_final : suc final ≡ at + n
-  pub reached : ((z : ℕ) × EndAt (story w (y.stripe final) h) c (y.offset final) z × (y.offset final < z)) ⊎ ShownAt (story w (y.stripe final) h) c (y.offset final)
-
--- a stat under locks on the whole of each object that the layout has: the end of the file that is known there
-pub record StatOk (w : Places) (y : Layout) (h : List Step) (c z : ℕ) : Type 0 where
-  pub ends : ℕ → ℕ
-  pub locks : (i : ℕ) → i < y.stripes → EndAt (story w i h) c 0 (ends i)
-  pub size : z ≡ tops y ends y.stripes
+abbrev pub StatOk : Places → Layout → List Step → (c z : ℕ) → Type 0
+StatOk w y h c z = StatOn (λ i. story w i h) y c z
 
 -- a line that tells a call tells of no stripe of this file: calls on the file are steps of their own
 abbrev pub Elsewhere : Places → Line → Type 0

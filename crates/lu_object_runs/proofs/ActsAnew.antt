@@ -12,9 +12,9 @@ use Rattle.lu_scene.specs.declared.scene.SceneLine.TheVariants.{Call, Run, RunSo
 use Rattle.lu_object_story.specs.Words.{Answer, Done, Ask, Reply, Entry, Takes, Flies, Heard, Forgets, Txn, Commit, Close, Send}
 use Rattle.lu_object_story.specs.Folds.{awaits, Answered}
 use Rattle.lu_object_story.specs.Guards.{AllAllowed}
-use Rattle.lu_object_runs.specs.Closes.{lost_by}
-use Rattle.lu_object_runs.specs.Requests.{among}
-use Rattle.lu_object_runs.specs.Stories.{story}
+use Rattle.lu_object_map.specs.Closes.{lost_by}
+use Rattle.lu_object_map.specs.Requests.{among}
+use Rattle.lu_object_map.specs.Stories.{story}
 use Rattle.lu_object_runs.proofs.Checks.{no_answer}
 use Rattle.lu_object_runs.proofs.Beginnings.{to_write, granted_to_write, wrote_allowed}
 use Rattle.lu_object_runs.proofs.Words.{past_after, f, first, second, writer, object_at, bytes, hi, put, wrote}

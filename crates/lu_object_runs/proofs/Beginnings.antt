@@ -6,7 +6,7 @@ use Rattle.std.proofs.lemmas.Bool.Decides.{nat_tests}
 use Rattle.lu_object_story.specs.Words.{Entry, covers, overlay, value}
 use Rattle.lu_object_story.specs.Folds.{HeldBy, IsGranted, is_some, touched, pending, dirty}
 use Rattle.lu_object_story.specs.Guards.{AllAllowed, UnderNumber, GrantedNumber}
-use Rattle.lu_object_runs.specs.Requests.{among}
+use Rattle.lu_object_map.specs.Requests.{among}
 use Rattle.lu_object_runs.proofs.Checks.{no_answer, free_is, seen_is}
 use Rattle.lu_object_runs.proofs.Words.{lock, first, writer, reader, bytes, hi, written, waits, read, has_lock, wrote, called_back, given_back}
 

@@ -1,4 +1,4 @@
--- One client writes two bytes, cuts its file after the first, writes both back by a call, and reads: the cut is taken to be written back first,
+-- One client writes two bytes, cuts its file after the first, and writes both back by a call: the cut is taken to be written back first,
 -- then the byte that is left. The story of the file's object.
 use Rattle.std.proofs.Common.{◌≡◌, ℕ, List, [], ◌∷◌, Some, None, refl, sym, subst, inl, arith}
 use Rattle.std.specs.Prelude.{drop, pos}
@@ -8,13 +8,13 @@ use Rattle.lu_msg.specs.declared.calls.Call.TheVariants as call
 use Rattle.lu_scene.specs.Lines.{default_head}
 use Rattle.lu_scene.specs.declared.scene.Scene.{Scene}
 use Rattle.lu_scene.specs.declared.scene.SceneLine.TheVariants.{Call, Run}
-use Rattle.lu_object_story.specs.Words.{Write, Cut, Flush, Request, Done, Ask, Reply, Did, Saw, Entry, Takes, Flies, Heard, Tells, Txn, Send, overlay}
+use Rattle.lu_object_story.specs.Words.{Write, Cut, Flush, Request, Done, Ask, Reply, Did, Entry, Takes, Flies, Heard, Tells, Txn, Send, overlay}
 use Rattle.lu_object_story.specs.Folds.{dirty}
-use Rattle.lu_object_story.specs.Guards.{AllAllowed, Reads}
-use Rattle.lu_object_runs.specs.Stories.{story}
+use Rattle.lu_object_story.specs.Guards.{AllAllowed}
+use Rattle.lu_object_map.specs.Stories.{story}
 use Rattle.lu_object_runs.proofs.Checks.{no_answer}
 use Rattle.lu_object_runs.proofs.Beginnings.{to_write, granted_to_write, wrote_allowed}
-use Rattle.lu_object_runs.proofs.Words.{past_after, f, first, writer, object_at, request, bytes, written, wrote}
+use Rattle.lu_object_runs.proofs.Words.{past_after, f, first, writer, object_at, request, bytes, wrote}
 
 abbrev pub scene : Scene
 scene =
@@ -22,7 +22,7 @@ scene =
       head = default_head;
       lines =
           Call 0 0 (call.Create f (Some (1048576, pos 1))) ∷ Run ∷ Call 0 0 (call.Open 0 f) ∷ Run ∷ Call 0 0 (call.Write 0 0 bytes) ∷ Run ∷ Call 0 0 (call.Cut 0 1) ∷ Run
-          ∷ Call 0 0 (call.Flush 0) ∷ Run ∷ Call 0 0 (call.Read 0 0 8) ∷ Run ∷ [];
+          ∷ Call 0 0 (call.Flush 0) ∷ Run ∷ [];
     }
 
 abbrev pub left : List ℕ
@@ -36,8 +36,7 @@ puts = request writer 3 (Flush (first 1) (Write 0 left))
 
 abbrev pub told : List Entry
 told =
-    Tells writer (Saw 0 8 left)
-    ∷ Heard puts (Done (first 2))
+    Heard puts (Done (first 2))
     ∷ Send (Reply 1 writer 3 (Done (first 2)))
     ∷ Txn (first 2) puts
     ∷ Send (Ask 1 puts)
@@ -57,22 +56,15 @@ unfolding raid0.stripe_of raid0.offset_of raid0.position_of raid0.greatest_end
 told_is = refl
 
 -- of what was written the first byte is left by the cut
-byte_left : (p b : ℕ) → overlay 0 left p None ≡ Some b → dirty writer (drop 7 told) p ≡ Some b
+byte_left : (p b : ℕ) → overlay 0 left p None ≡ Some b → dirty writer (drop 6 told) p ≡ Some b
 byte_left p b e = grind (arith, nat_tests)
 
--- and nothing, once all is written back
-clean : (p : ℕ) → dirty writer (drop 1 told) p ≡ None
-clean p = grind (arith, nat_tests)
-
-reads : Reads (drop 1 told) writer 0 left
-reads p v e = grind (arith, nat_tests)
-
 -- as far as the byte is taken
-byte_taken : AllAllowed (drop 6 told)
+byte_taken : AllAllowed (drop 5 told)
 byte_taken =
-    let did : AllAllowed (drop 13 told) =
+    let did : AllAllowed (drop 12 told) =
     (to_write (first 1) writer (inl refl), wrote_allowed) in
-    let takes_cut : AllAllowed (drop 12 told) = (
+    let takes_cut : AllAllowed (drop 11 told) = (
       record {
         alone = refl;
         under = to_write (first 1) writer (inl refl);
@@ -80,23 +72,23 @@ byte_taken =
       },
       did,
     ) in
-    let cut_flies : AllAllowed (drop 11 told) = (record { idle = refl; next = omega arith; op = refl }, takes_cut) in
-    let asks_cut : AllAllowed (drop 10 told) = ((refl, refl), cut_flies) in
-    let cut_done : AllAllowed (drop 9 told) = (
+    let cut_flies : AllAllowed (drop 10 told) = (record { idle = refl; next = omega arith; op = refl }, takes_cut) in
+    let asks_cut : AllAllowed (drop 9 told) = ((refl, refl), cut_flies) in
+    let cut_done : AllAllowed (drop 8 told) = (
       (
         first 1,
         Cut 1,
         record {
           number = omega arith;
-          fresh = record { was = inl refl; first = no_answer (drop 10 told) writer 2 refl };
+          fresh = record { was = inl refl; first = no_answer (drop 9 told) writer 2 refl };
           op = refl;
           under = granted_to_write (first 1) writer (inl refl);
         },
       ),
       asks_cut,
     ) in
-    let cut_replied : AllAllowed (drop 8 told) = ((inl (refl, refl, refl), refl), cut_done) in
-    let cut_heard : AllAllowed (drop 7 told) = ((refl, inl refl), cut_replied) in (
+    let cut_replied : AllAllowed (drop 7 told) = ((inl (refl, refl, refl), refl), cut_done) in
+    let cut_heard : AllAllowed (drop 6 told) = ((refl, inl refl), cut_replied) in (
       record {
         alone = refl;
         under = to_write (first 1) writer (inl refl);
@@ -107,40 +99,23 @@ byte_taken =
 
 pub told_allowed : AllAllowed told
 told_allowed =
-    let put_flies : AllAllowed (drop 5 told) = (record { idle = refl; next = omega arith; op = refl }, byte_taken) in
-    let asks_put : AllAllowed (drop 4 told) = ((refl, refl), put_flies) in
-    let put_done : AllAllowed (drop 3 told) = (
+    let put_flies : AllAllowed (drop 4 told) = (record { idle = refl; next = omega arith; op = refl }, byte_taken) in
+    let asks_put : AllAllowed (drop 3 told) = ((refl, refl), put_flies) in
+    let put_done : AllAllowed (drop 2 told) = (
       (
         first 1,
         Write 0 left,
         record {
           number = omega arith;
-          fresh = record { was = inl refl; first = no_answer (drop 4 told) writer 3 refl };
+          fresh = record { was = inl refl; first = no_answer (drop 3 told) writer 3 refl };
           op = refl;
           under = granted_to_write (first 1) writer (inl refl);
         },
       ),
       asks_put,
     ) in
-    let put_replied : AllAllowed (drop 2 told) = ((inl (refl, refl, refl), refl), put_done) in
-    let put_heard : AllAllowed (drop 1 told) = ((refl, inl refl), put_replied) in (
-      inl (
-        1,
-        record {
-          lock = written;
-          held = inl refl;
-          life = refl;
-          last = refl;
-          first = omega arith;
-          end = 1;
-          known = refl;
-          over = (omega arith, (λ p i. clean p), inl refl);
-        },
-        refl,
-        reads,
-      ),
-      put_heard,
-    )
+    let put_replied : AllAllowed (drop 1 told) = ((inl (refl, refl, refl), refl), put_done) in
+    ((refl, inl refl), put_replied)
 
 pub allowed : AllAllowed (story 1 (object_at 0) (past_after 60 scene))
 allowed = subst AllAllowed (sym told_is) told_allowed

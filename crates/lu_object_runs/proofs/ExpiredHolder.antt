@@ -7,10 +7,10 @@ use Rattle.lu_layout.specs.Raid0 as raid0
 use Rattle.lu_msg.specs.declared.calls.Call.TheVariants as call
 use Rattle.lu_scene.specs.declared.scene.Scene.{Scene}
 use Rattle.lu_scene.specs.declared.scene.SceneLine.TheVariants.{Call, Run, RunSome, Lose, Tick}
-use Rattle.lu_object_story.specs.Words.{Waiting, Give, Block, Saw, Entry, Heard, Hold, Tells, Promote, Release, Evict, Commit, Send}
+use Rattle.lu_object_story.specs.Words.{Waiting, Give, Block, Entry, Heard, Hold, Promote, Release, Evict, Commit, Send}
 use Rattle.lu_object_story.specs.Guards.{AllAllowed}
-use Rattle.lu_object_runs.specs.Requests.{among}
-use Rattle.lu_object_runs.specs.Stories.{story}
+use Rattle.lu_object_map.specs.Requests.{among}
+use Rattle.lu_object_map.specs.Stories.{story}
 use Rattle.lu_object_runs.proofs.Checks.{free_is, released}
 use Rattle.lu_object_runs.proofs.Beginnings.{whole, called_back_allowed}
 use Rattle.lu_object_runs.proofs.Words.{written, waits, past_after, two_clients, written_by_one, first, writer, reader, object_at, ask_read, read, called_back}
@@ -26,7 +26,6 @@ scene =
 abbrev pub told : List Entry
 told =
     Commit 0
-    ∷ Tells reader (Saw 0 8 [])
     ∷ Hold read 0 (among [])
     ∷ Heard ask_read (Waiting (first 2))
     ∷ Send (Give 1 read 0 (among []))
@@ -43,22 +42,18 @@ told_is = refl
 
 pub told_allowed : AllAllowed told
 told_allowed =
-    let block : AllAllowed (drop 9 told) = ((written, inl refl, refl, refl), called_back_allowed) in
-    let commit : AllAllowed (drop 8 told) = (tt, block) in
-    let evict : AllAllowed (drop 7 told) = (tt, commit) in
-    let release : AllAllowed (drop 6 told) = (inr (released (first 1) (drop 7 told) refl), evict) in
-    let promote : AllAllowed (drop 5 told) = (
-      record { ahead = waits; waits = (λ e. absurd (omega arith), inl refl); life = refl; cookie = refl; write = refl; covered = λ p e. whole (first 2) reader false p; free = free_is read (drop 6 told) refl },
+    let block : AllAllowed (drop 8 told) = ((written, inl refl, refl, refl), called_back_allowed) in
+    let commit : AllAllowed (drop 7 told) = (tt, block) in
+    let evict : AllAllowed (drop 6 told) = (tt, commit) in
+    let release : AllAllowed (drop 5 told) = (inr (released (first 1) (drop 6 told) refl), evict) in
+    let promote : AllAllowed (drop 4 told) = (
+      record { ahead = waits; waits = (λ e. absurd (omega arith), inl refl); life = refl; cookie = refl; write = refl; covered = λ p e. whole (first 2) reader false p; free = free_is read (drop 5 told) refl },
       release,
     ) in
-    let gives : AllAllowed (drop 4 told) = ((inl refl, (λ p i. refl, λ p e. absurd (omega arith)), (λ n p a i low. absurd i), refl), promote) in
-    let heard : AllAllowed (drop 3 told) = ((refl, inr (inr (inr (inl refl)))), gives) in
-    let hold : AllAllowed (drop 2 told) = ((refl, inr (inl refl)), heard) in
-    let saw : AllAllowed (drop 1 told) = (
-      inl (0, record { lock = read; held = inl refl; life = refl; last = refl; first = omega arith; end = 0; known = refl; over = (omega arith, (λ p i. refl), inl refl) }, refl, λ p v e. absurd (cc)),
-      hold,
-    ) in
-    (tt, saw)
+    let gives : AllAllowed (drop 3 told) = ((inl refl, (λ p i. refl, λ p e. absurd (omega arith)), (λ n p a i low. absurd i), refl), promote) in
+    let heard : AllAllowed (drop 2 told) = ((refl, inr (inr (inr (inl refl)))), gives) in
+    let hold : AllAllowed (drop 1 told) = ((refl, inr (inl refl)), heard) in
+    (tt, hold)
 
 pub allowed : AllAllowed (story 1 (object_at 0) (past_after 60 scene))
 allowed = subst AllAllowed (sym told_is) told_allowed

@@ -8,7 +8,7 @@ use Rattle.lu_scene.specs.declared.scene.Scene.{Scene}
 use Rattle.lu_scene.specs.declared.scene.SceneLine.TheVariants.{Call, Run}
 use Rattle.lu_object_story.specs.Words.{Size, Request, Sized, Ask, Reply, Entry, Flies, Heard, Acts, Send}
 use Rattle.lu_object_story.specs.Guards.{AllAllowed}
-use Rattle.lu_object_runs.specs.Stories.{story}
+use Rattle.lu_object_map.specs.Stories.{story}
 use Rattle.lu_object_runs.proofs.Checks.{no_answer}
 use Rattle.lu_object_runs.proofs.Beginnings.{wrote_allowed}
 use Rattle.lu_object_runs.proofs.Words.{past_after, two_clients, written_by_one, reader, object_at, request, wrote}

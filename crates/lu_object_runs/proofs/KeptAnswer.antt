@@ -10,9 +10,9 @@ use Rattle.lu_scene.specs.declared.scene.SceneLine.TheVariants.{Run, Crash, Boot
 use Rattle.lu_object_story.specs.Words.{Done, Ask, Reply, Entry, Heard, Forgets, Commit, Close, Send}
 use Rattle.lu_object_story.specs.Folds.{awaits}
 use Rattle.lu_object_story.specs.Guards.{AllAllowed}
-use Rattle.lu_object_runs.specs.Closes.{lost_by}
-use Rattle.lu_object_runs.specs.Requests.{among}
-use Rattle.lu_object_runs.specs.Stories.{story}
+use Rattle.lu_object_map.specs.Closes.{lost_by}
+use Rattle.lu_object_map.specs.Requests.{among}
+use Rattle.lu_object_map.specs.Stories.{story}
 use Rattle.lu_object_runs.proofs.ActsAnew.{executed, answered, answered_allowed}
 use Rattle.lu_object_runs.proofs.Words.{past_after, first, writer, object_at, put}
 

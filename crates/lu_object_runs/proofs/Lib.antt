@@ -8,8 +8,6 @@ pub mod Checks
 pub mod Beginnings
 pub mod RestoredLock
 pub mod LifeEnds
-pub mod Lives
-pub mod Lookups
 pub mod SawLost
 pub mod CutAndFlush
 pub mod ActsAnew

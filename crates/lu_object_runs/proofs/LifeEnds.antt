@@ -9,8 +9,8 @@ use Rattle.lu_scene.specs.declared.scene.Scene.{Scene}
 use Rattle.lu_scene.specs.declared.scene.SceneLine.TheVariants.{Call, Run, RunSome, Lose, Tick}
 use Rattle.lu_object_story.specs.Words.{Write, Enqueue, Request, Granted, Ask, Reply, Did, Entry, Flies, Heard, Hold, Tells, Grant, Release, Evict, Commit, Send}
 use Rattle.lu_object_story.specs.Guards.{AllAllowed}
-use Rattle.lu_object_runs.specs.Requests.{among}
-use Rattle.lu_object_runs.specs.Stories.{story}
+use Rattle.lu_object_map.specs.Requests.{among}
+use Rattle.lu_object_map.specs.Stories.{story}
 use Rattle.lu_object_runs.proofs.Checks.{no_answer, free_is, released}
 use Rattle.lu_object_runs.proofs.Beginnings.{whole, to_write, has_lock_allowed}
 use Rattle.lu_object_runs.proofs.Words.{past_after, two_clients, f, first, writer, reader, object_at, request, read, has_lock}

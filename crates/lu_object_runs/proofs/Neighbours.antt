@@ -11,8 +11,8 @@ use Rattle.lu_scene.specs.declared.scene.SceneLine.TheVariants.{Call, Run}
 use Rattle.lu_object_story.specs.Words.{Lock, Change, Write, Enqueue, Request, Waiting, Done, Ask, Reply, Give, Block, Cancel, Did, Saw, Entry, Takes, Flies, Heard, Hold, Drop, Tells, Wait, Promote, Txn, Release, Send, covers, changes}
 use Rattle.lu_object_story.specs.Folds.{Changed, touched, pending, dirty}
 use Rattle.lu_object_story.specs.Guards.{AllAllowed, Reads, in_run}
-use Rattle.lu_object_runs.specs.Requests.{among}
-use Rattle.lu_object_runs.specs.Stories.{story}
+use Rattle.lu_object_map.specs.Requests.{among}
+use Rattle.lu_object_map.specs.Stories.{story}
 use Rattle.lu_object_runs.proofs.Checks.{no_answer, free_is, seen_is}
 use Rattle.lu_object_runs.proofs.Beginnings.{to_write, granted_to_write, past_two, last_two, wrote_allowed}
 use Rattle.lu_object_runs.proofs.Words.{past_after, f, first, writer, object_at, lock, request, bytes, hi, written, put, wrote}
@@ -87,8 +87,7 @@ free =
 -- the first write lies under one of the two locks alone, so only that one rests on it
 abbrev pub told : List Entry
 told =
-    Tells near (Saw 4096 1 (1 ∷ []))
-    ∷ Tells far (Did (first 3) two)
+    Tells far (Did (first 3) two)
     ∷ Hold far_lock 2 (among [])
     ∷ Tells near (Did (first 2) one)
     ∷ Hold near_lock 2 (among (first 1 ∷ []))
@@ -159,23 +158,17 @@ two_under : (p : ℕ) → changes two p ≡ true → covers far_lock p ≡ true
 two_under p e = grind (arith, nat_tests)
 
 -- the first write isn't under the far lock
-far_sees : (n p : ℕ) → covers far_lock p ≡ true → Changed (drop 6 told) n p → among [] n ≡ true
+far_sees : (n p : ℕ) → covers far_lock p ≡ true → Changed (drop 5 told) n p → among [] n ≡ true
 far_sees n p a (inl e) = let q = e.1 in absurd (grind (arith, nat_tests, q, a))
 far_sees n p a (inr v) = absurd v
 
-asked_under : (p : ℕ) → in_run 4096 1 p ≡ true → covers near_lock p ≡ true
-asked_under p e = grind (arith, nat_tests)
-
-reads : Reads (drop 1 told) near 4096 (1 ∷ [])
-reads p v e = grind (arith, nat_tests)
-
 pub told_allowed : AllAllowed told
 told_allowed =
-    let near_promote : AllAllowed (drop 8 told) =
+    let near_promote : AllAllowed (drop 7 told) =
     (record { ahead = near_waits; waits = inr (inl refl); life = refl; cookie = refl; write = refl; covered = near_wider; free = free_is near_lock free refl }, free_allowed) in
-    let near_give : AllAllowed (drop 7 told) =
-    ((inl refl, (past_two, last_two), (λ n p a i low. seen_is (among (first 1 ∷ [])) (drop 8 told) 0 refl n p i low), refl), near_promote) in
-    let far_promote : AllAllowed (drop 6 told) = (
+    let near_give : AllAllowed (drop 6 told) =
+    ((inl refl, (past_two, last_two), (λ n p a i low. seen_is (among (first 1 ∷ [])) (drop 7 told) 0 refl n p i low), refl), near_promote) in
+    let far_promote : AllAllowed (drop 5 told) = (
       record {
         ahead = far_waits;
         waits = (λ e. absurd (omega arith), inl refl);
@@ -183,30 +176,41 @@ told_allowed =
         cookie = refl;
         write = refl;
         covered = far_wider;
-        free = free_is far_lock (drop 7 told) refl;
+        free = free_is far_lock (drop 6 told) refl;
       },
       near_give,
     ) in
-    let far_give : AllAllowed (drop 5 told) = ((inl refl, (past_two, last_two), (λ n p a i low. far_sees n p a i), refl), far_promote) in
-    let near_hold : AllAllowed (drop 4 told) = ((refl, inr (inr (inl refl))), far_give) in
-    let near_did : AllAllowed (drop 3 told) =
+    let far_give : AllAllowed (drop 4 told) = ((inl refl, (past_two, last_two), (λ n p a i low. far_sees n p a i), refl), far_promote) in
+    let near_hold : AllAllowed (drop 3 told) = ((refl, inr (inr (inl refl))), far_give) in
+    let near_did : AllAllowed (drop 2 told) =
     (record { lock = near_lock; held = inl refl; life = refl; cookie = refl; mode = λ e. refl; covered = one_under }, near_hold) in
-    let far_hold : AllAllowed (drop 2 told) = ((refl, inr (inl refl)), near_did) in
-    let far_did : AllAllowed (drop 1 told) =
-    (record { lock = far_lock; held = inl refl; life = refl; cookie = refl; mode = λ e. refl; covered = two_under }, far_hold) in (
-      inr (record {
-        lock = near_lock;
-        held = inr (inl refl);
-        life = refl;
-        covered = asked_under;
-        count = refl;
-        reads = reads;
-        final = 4096;
-        is_final = refl;
-        reached = record { lock = near_lock; held = inr (inl refl); life = refl; covered = refl; last = 8191; short = refl; most = 4096; shown = refl; reached = omega arith };
-      }),
-      far_did,
-    )
+    let far_hold : AllAllowed (drop 1 told) = ((refl, inr (inl refl)), near_did) in
+    (record { lock = far_lock; held = inl refl; life = refl; cookie = refl; mode = λ e. refl; covered = two_under }, far_hold)
 
 pub allowed : AllAllowed (story 1 (object_at 0) (past_after 60 scene))
 allowed = subst AllAllowed (sym told_is) told_allowed
+
+-- ---- a read under the lock that has a last byte
+
+asked_under : (p : ℕ) → in_run 4096 1 p ≡ true → covers near_lock p ≡ true
+asked_under p e = grind (arith, nat_tests)
+
+reads : Reads told near 4096 (1 ∷ [])
+reads p v e = grind (arith, nat_tests)
+
+-- the call is told what it wrote. Reads aren't in the map, but the theory's rule for them allows it here
+pub read_allowed : AllAllowed (Tells near (Saw 4096 1 (1 ∷ [])) ∷ told)
+read_allowed = (
+  inr (record {
+    lock = near_lock;
+    held = inr (inl refl);
+    life = refl;
+    covered = asked_under;
+    count = refl;
+    reads = reads;
+    final = 4096;
+    is_final = refl;
+    reached = record { lock = near_lock; held = inr (inl refl); life = refl; covered = refl; last = 8191; short = refl; most = 4096; shown = refl; reached = omega arith };
+  }),
+  told_allowed,
+)

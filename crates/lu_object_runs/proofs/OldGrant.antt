@@ -1,5 +1,5 @@
 -- The target crashes after a write-back was answered and a lock was granted, before either was committed; the write-back is replayed and kept,
--- and the grant comes too late. The reader asks again in the second boot, and is told the bytes. The story of the file's object.
+-- and the grant comes too late. The reader asks again in the second boot, and gets the bytes. The story of the file's object.
 use Rattle.std.proofs.Common.{◌≡◌, false, List, [], ◌∷◌, Some, None, ℕ, refl, sym, subst, inl, arith}
 use Rattle.std.specs.Prelude.{drop}
 use Rattle.std.proofs.lemmas.Bool.Decides.{nat_tests}
@@ -7,14 +7,14 @@ use Rattle.lu_layout.specs.Raid0 as raid0
 use Rattle.lu_msg.specs.declared.calls.Call.TheVariants as call
 use Rattle.lu_scene.specs.declared.scene.Scene.{Scene}
 use Rattle.lu_scene.specs.declared.scene.SceneLine.TheVariants.{Call, Run, RunSome, Crash, Boot, Deliver}
-use Rattle.lu_object_story.specs.Words.{Lock, Enqueue, Get, Request, Granted, Ask, Reply, Saw, Entry, Flies, Heard, Hold, Forgets, Tells, Grant, Acts, Commit, Close, Send}
+use Rattle.lu_object_story.specs.Words.{Lock, Enqueue, Get, Request, Granted, Ask, Reply, Entry, Flies, Heard, Hold, Forgets, Grant, Acts, Commit, Close, Send}
 use Rattle.lu_object_story.specs.Folds.{awaits}
-use Rattle.lu_object_story.specs.Guards.{AllAllowed, Reads}
-use Rattle.lu_object_runs.specs.Closes.{lost_by}
-use Rattle.lu_object_runs.specs.Requests.{among}
-use Rattle.lu_object_runs.specs.Stories.{story}
+use Rattle.lu_object_story.specs.Guards.{AllAllowed}
+use Rattle.lu_object_map.specs.Closes.{lost_by}
+use Rattle.lu_object_map.specs.Requests.{among}
+use Rattle.lu_object_map.specs.Stories.{story}
 use Rattle.lu_object_runs.proofs.Checks.{no_answer, free_is, seen_is}
-use Rattle.lu_object_runs.proofs.Beginnings.{whole, to_read, granted_to_read, past_two, last_two, padded_reads, padded_has, given_back_allowed}
+use Rattle.lu_object_runs.proofs.Beginnings.{whole, to_read, granted_to_read, past_two, last_two, padded_reads, given_back_allowed}
 use Rattle.lu_object_runs.proofs.Words.{past_after, two_clients, written_by_one, first, second, writer, reader, object_at, lock, request, bytes, page, given_back}
 
 abbrev pub scene : Scene
@@ -40,8 +40,7 @@ closed = Commit (first 1) ∷ Close 2 (lost_by 0 2 (first 1 ∷ [])) (among []) 
 
 abbrev pub told : List Entry
 told =
-    Tells reader (Saw 0 8 bytes)
-    ∷ Heard get (page [])
+    Heard get (page [])
     ∷ Send (Reply 2 reader 3 (page []))
     ∷ Acts get (page [])
     ∷ Send (Ask 2 get)
@@ -76,33 +75,30 @@ closed_allowed =
     ) in
     (tt, close)
 
-reads : Reads (drop 1 told) reader 0 bytes
-reads p v e = padded_has 0 4096 bytes p v (omega arith) e
-
 -- as far as the reader holds its lock again
-held_again : AllAllowed (drop 6 told)
+held_again : AllAllowed (drop 5 told)
 held_again =
-    let flies : AllAllowed (drop 11 told) = (record { idle = refl; next = omega arith; op = tt }, closed_allowed) in
-    let asks : AllAllowed (drop 10 told) = ((refl, refl), flies) in
-    let grant : AllAllowed (drop 9 told) = (
+    let flies : AllAllowed (drop 10 told) = (record { idle = refl; next = omega arith; op = tt }, closed_allowed) in
+    let asks : AllAllowed (drop 9 told) = ((refl, refl), flies) in
+    let grant : AllAllowed (drop 8 told) = (
       record {
-        fresh = record { was = inl refl; first = no_answer (drop 10 told) reader 2 refl };
+        fresh = record { was = inl refl; first = no_answer (drop 9 told) reader 2 refl };
         life = refl;
         new = omega arith;
         asks = (refl, λ p e. whole (second 1) reader false p);
-        free = free_is again (drop 10 told) refl;
+        free = free_is again (drop 9 told) refl;
         size = (past_two, last_two);
-        sees = λ n p a i low. seen_is (among []) (drop 10 told) (first 1) refl n p i low;
+        sees = λ n p a i low. seen_is (among []) (drop 9 told) (first 1) refl n p i low;
       },
       asks,
     ) in
-    let replies : AllAllowed (drop 8 told) = ((inl (refl, refl, refl), refl), grant) in
-    let heard : AllAllowed (drop 7 told) = ((refl, inl refl), replies) in
+    let replies : AllAllowed (drop 7 told) = ((inl (refl, refl, refl), refl), grant) in
+    let heard : AllAllowed (drop 6 told) = ((refl, inl refl), replies) in
     ((refl, inl (2, inl refl)), heard)
 
 pub told_allowed : AllAllowed told
 told_allowed =
-    let gets : AllAllowed (drop 5 told) = (
+    let gets : AllAllowed (drop 4 told) = (
       record {
         idle = refl;
         next = omega arith;
@@ -110,10 +106,10 @@ told_allowed =
       },
       held_again,
     ) in
-    let asks_page : AllAllowed (drop 4 told) = ((refl, refl), gets) in
-    let acts : AllAllowed (drop 3 told) = (
+    let asks_page : AllAllowed (drop 3 told) = ((refl, refl), gets) in
+    let acts : AllAllowed (drop 2 told) = (
       (
-        record { was = inl refl; first = no_answer (drop 4 told) reader 3 refl },
+        record { was = inl refl; first = no_answer (drop 3 told) reader 3 refl },
         (
           second 1,
           0,
@@ -121,18 +117,15 @@ told_allowed =
           refl,
           refl,
           granted_to_read (second 1) reader false (inl refl),
-          (λ n p a i low. seen_is (among []) (drop 4 told) (first 1) refl n p i low),
+          (λ n p a i low. seen_is (among []) (drop 3 told) (first 1) refl n p i low),
           (λ p v e. padded_reads 0 4096 bytes p v e),
           (refl, refl),
         ),
       ),
       asks_page,
     ) in
-    let page_sent : AllAllowed (drop 2 told) = ((inl (refl, refl, refl), refl), acts) in
-    let page_heard : AllAllowed (drop 1 told) = ((refl, inl refl), page_sent) in (
-      inl (2, record { lock = again; held = inl refl; life = refl; last = refl; first = omega arith; end = 2; known = refl; over = (omega arith, (λ p i. refl), inl refl) }, refl, reads),
-      page_heard,
-    )
+    let page_sent : AllAllowed (drop 1 told) = ((inl (refl, refl, refl), refl), acts) in
+    ((refl, inl refl), page_sent)
 
 pub allowed : AllAllowed (story 1 (object_at 0) (past_after 60 scene))
 allowed = subst AllAllowed (sym told_is) told_allowed

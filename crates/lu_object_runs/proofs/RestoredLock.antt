@@ -11,9 +11,9 @@ use Rattle.lu_scene.specs.declared.scene.SceneLine.TheVariants.{Call, Run, RunSo
 use Rattle.lu_object_story.specs.Words.{Entry, Forgets, Commit, Close}
 use Rattle.lu_object_story.specs.Folds.{awaits, IsGranted}
 use Rattle.lu_object_story.specs.Guards.{AllAllowed}
-use Rattle.lu_object_runs.specs.Closes.{lost_by}
-use Rattle.lu_object_runs.specs.Requests.{among}
-use Rattle.lu_object_runs.specs.Stories.{story}
+use Rattle.lu_object_map.specs.Closes.{lost_by}
+use Rattle.lu_object_map.specs.Requests.{among}
+use Rattle.lu_object_map.specs.Stories.{story}
 use Rattle.lu_object_runs.proofs.Words.{past_after, two_clients, written_by_one, reader, object_at, read}
 use Rattle.lu_object_runs.proofs.ExpiredHolder as expired
 

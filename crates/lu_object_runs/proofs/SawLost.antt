@@ -1,5 +1,5 @@
 -- The read of `WriteThenRead`, and then a crash before the write-back is committed. The writer is dead, so its write-back is lost, and both lives
--- are evicted by the close: the writer is absent, the reader saw what is lost. The reader's next life reads an empty file.
+-- are evicted by the close: the writer is absent, the reader saw what is lost. The reader's next life finds an empty object.
 use Rattle.std.proofs.Common.{◌≡◌, ℕ, false, List, [], ◌∷◌, Some, None, refl, sym, subst, inl, arith}
 use Rattle.std.specs.Prelude.{drop, ◌||◌}
 use Rattle.std.proofs.lemmas.Bool.Decides.{nat_tests}
@@ -7,13 +7,13 @@ use Rattle.lu_layout.specs.Raid0 as raid0
 use Rattle.lu_msg.specs.declared.calls.Call.TheVariants as call
 use Rattle.lu_scene.specs.declared.scene.Scene.{Scene}
 use Rattle.lu_scene.specs.declared.scene.SceneLine.TheVariants.{Call, Run, Crash, Boot, Close as CloseWindow, Die}
-use Rattle.lu_object_story.specs.Words.{Lock, Enqueue, Request, Granted, Ask, Reply, Saw, Entry, Flies, Heard, Hold, Forgets, Tells, Grant, Evict, Commit, Close, Send}
+use Rattle.lu_object_story.specs.Words.{Lock, Enqueue, Request, Granted, Ask, Reply, Entry, Flies, Heard, Hold, Forgets, Grant, Evict, Commit, Close, Send}
 use Rattle.lu_object_story.specs.Folds.{awaits, evicted, nothing_lost}
 use Rattle.lu_object_story.specs.Guards.{AllAllowed}
-use Rattle.lu_object_story.specs.History.{Read, history}
-use Rattle.lu_object_runs.specs.Closes.{lost_by}
-use Rattle.lu_object_runs.specs.Requests.{among}
-use Rattle.lu_object_runs.specs.Stories.{story}
+use Rattle.lu_object_story.specs.History.{history}
+use Rattle.lu_object_map.specs.Closes.{lost_by}
+use Rattle.lu_object_map.specs.Requests.{among}
+use Rattle.lu_object_map.specs.Stories.{story}
 use Rattle.lu_object_runs.proofs.Checks.{no_answer, free_is, seen_is}
 use Rattle.lu_object_runs.proofs.Beginnings.{whole}
 use Rattle.lu_object_runs.proofs.Words.{past_after, two_clients, written_by_one, f, second, writer, reader, object_at, lock, request}
@@ -43,8 +43,7 @@ closed = Evict reader ∷ Evict writer ∷ Commit 0 ∷ Close 2 (lost_by 0 2 [])
 
 abbrev pub told : List Entry
 told =
-    Tells next_reader (Saw 0 8 [])
-    ∷ Hold again 0 (among [])
+    Hold again 0 (among [])
     ∷ Heard ask_again (Granted again 0 (among []))
     ∷ Send (Reply 2 next_reader 1 (Granted again 0 (among [])))
     ∷ Grant ask_again again 0 (among [])
@@ -76,31 +75,28 @@ closed_allowed =
 
 pub told_allowed : AllAllowed told
 told_allowed =
-    let commit : AllAllowed (drop 7 told) = (tt, closed_allowed) in
-    let flies : AllAllowed (drop 6 told) = (record { idle = refl; next = omega arith; op = tt }, commit) in
-    let asks : AllAllowed (drop 5 told) = ((refl, refl), flies) in
-    let grant : AllAllowed (drop 4 told) = (
+    let commit : AllAllowed (drop 6 told) = (tt, closed_allowed) in
+    let flies : AllAllowed (drop 5 told) = (record { idle = refl; next = omega arith; op = tt }, commit) in
+    let asks : AllAllowed (drop 4 told) = ((refl, refl), flies) in
+    let grant : AllAllowed (drop 3 told) = (
       record {
-        fresh = record { was = inl refl; first = no_answer (drop 5 told) next_reader 1 refl };
+        fresh = record { was = inl refl; first = no_answer (drop 4 told) next_reader 1 refl };
         life = refl;
         new = omega arith;
         asks = (refl, λ p e. whole (second 1) next_reader false p);
-        free = free_is again (drop 5 told) refl;
+        free = free_is again (drop 4 told) refl;
         size = (λ p i. refl, λ p e. absurd (omega arith));
-        sees = λ n p a i low. seen_is (among []) (drop 5 told) 0 refl n p i low;
+        sees = λ n p a i low. seen_is (among []) (drop 4 told) 0 refl n p i low;
       },
       asks,
     ) in
-    let replies : AllAllowed (drop 3 told) = ((inl (refl, refl, refl), refl), grant) in
-    let heard : AllAllowed (drop 2 told) = ((refl, inl refl), replies) in
-    let hold : AllAllowed (drop 1 told) = ((refl, inl (1, inl refl)), heard) in (
-      inl (0, record { lock = again; held = inl refl; life = refl; last = refl; first = omega arith; end = 0; known = refl; over = (omega arith, (λ p i. refl), inl refl) }, refl, λ p v e. absurd (cc)),
-      hold,
-    )
+    let replies : AllAllowed (drop 2 told) = ((inl (refl, refl, refl), refl), grant) in
+    let heard : AllAllowed (drop 1 told) = ((refl, inl refl), replies) in
+    ((refl, inl (1, inl refl)), heard)
 
 pub allowed : AllAllowed (story 1 (object_at 0) (past_after 100 scene))
 allowed = subst AllAllowed (sym told_is) told_allowed
 
 -- nothing of the lost write is left in the history
-pub history_is : history (λ c. evicted c told) nothing_lost told ≡ Read next_reader 0 8 [] ∷ []
+pub history_is : history (λ c. evicted c told) nothing_lost told ≡ []
 history_is = refl

@@ -11,8 +11,8 @@ use Rattle.lu_scene.specs.declared.scene.SceneLine.TheVariants.{Call, Run}
 use Rattle.lu_client_rows.specs.Messages.{padded}
 use Rattle.lu_object_story.specs.Words.{Write, Cut, Get, Request, Answer, Content, Ask, Reply, Did, Entry, Flies, Heard, Tells, Acts, Send}
 use Rattle.lu_object_story.specs.Guards.{AllAllowed}
-use Rattle.lu_object_runs.specs.Requests.{among}
-use Rattle.lu_object_runs.specs.Stories.{story}
+use Rattle.lu_object_map.specs.Requests.{among}
+use Rattle.lu_object_map.specs.Stories.{story}
 use Rattle.lu_object_runs.proofs.Checks.{no_answer}
 use Rattle.lu_object_runs.proofs.Beginnings.{padded_reads, to_write, to_read, granted_to_read, has_lock_allowed}
 use Rattle.lu_object_runs.proofs.Words.{past_after, f, first, writer, object_at, request, has_lock}

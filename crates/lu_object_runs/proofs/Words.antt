@@ -13,7 +13,7 @@ use Rattle.lu_words.specs.Words.{Line}
 use Rattle.lu_table.specs.Scenarios.{Disks, head_of, past_of, start, steps}
 use Rattle.lu_client_rows.specs.Messages.{padded}
 use Rattle.lu_object_story.specs.Words.{Lock, Change, Write, Op, Enqueue, Flush, Request, Answer, Granted, Waiting, Content, Ask, Reply, Give, Block, Cancel, Done, Did, Entry, Takes, Flies, Heard, Hold, Drop, Tells, Grant, Wait, Promote, Txn, Release, Send}
-use Rattle.lu_object_runs.specs.Requests.{among}
+use Rattle.lu_object_map.specs.Requests.{among}
 
 -- ---- scenes
 

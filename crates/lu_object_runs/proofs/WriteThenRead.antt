@@ -10,8 +10,8 @@ use Rattle.lu_object_story.specs.Folds.{evicted, nothing_lost}
 use Rattle.lu_object_story.specs.Guards.{AllAllowed, Reads}
 use Rattle.lu_object_story.specs.History.{Made, Read, Locks, history, read_of, size_of}
 use Rattle.lu_object_story.proofs.World.{allowed_lawful}
-use Rattle.lu_object_runs.specs.Requests.{among}
-use Rattle.lu_object_runs.specs.Stories.{story}
+use Rattle.lu_object_map.specs.Requests.{among}
+use Rattle.lu_object_map.specs.Stories.{story}
 use Rattle.lu_object_runs.proofs.Checks.{no_answer, seen_is}
 use Rattle.lu_object_runs.proofs.Beginnings.{to_read, granted_to_read, padded_reads, padded_has, given_back_allowed}
 use Rattle.lu_object_runs.proofs.Words.{past_after, two_clients, written_by_one, first, writer, reader, object_at, request, bytes, hi, read, page, given_back}
@@ -25,8 +25,7 @@ get = request reader 2 (Get (first 2) 0 4096)
 -- the reader gets the page, which rests on the write-back, and is told the bytes
 abbrev pub told : List Entry
 told =
-    Tells reader (Saw 0 8 bytes)
-    ∷ Heard get (page (first 1 ∷ []))
+    Heard get (page (first 1 ∷ []))
     ∷ Send (Reply 1 reader 2 (page (first 1 ∷ [])))
     ∷ Acts get (page (first 1 ∷ []))
     ∷ Send (Ask 1 get)
@@ -38,14 +37,10 @@ pub told_is : story 1 (object_at 0) (past_after 40 scene) ≡ told
 unfolding raid0.stripe_of raid0.offset_of raid0.position_of raid0.greatest_end
 told_is = refl
 
--- what the reader takes each position for that it is told
-reads : Reads (drop 1 told) reader 0 bytes
-reads p v e = padded_has 0 4096 bytes p v (omega arith) e
-
 pub told_allowed : AllAllowed told
 told_allowed =
-    let hold : AllAllowed (drop 6 told) = ((refl, inr (inl refl)), given_back_allowed) in
-    let flies : AllAllowed (drop 5 told) = (
+    let hold : AllAllowed (drop 5 told) = ((refl, inr (inl refl)), given_back_allowed) in
+    let flies : AllAllowed (drop 4 told) = (
       record {
         idle = refl;
         next = omega arith;
@@ -53,10 +48,10 @@ told_allowed =
       },
       hold,
     ) in
-    let asks : AllAllowed (drop 4 told) = ((refl, refl), flies) in
-    let acts : AllAllowed (drop 3 told) = (
+    let asks : AllAllowed (drop 3 told) = ((refl, refl), flies) in
+    let acts : AllAllowed (drop 2 told) = (
       (
-        record { was = inl refl; first = no_answer (drop 4 told) reader 2 refl },
+        record { was = inl refl; first = no_answer (drop 3 told) reader 2 refl },
         (
           first 2,
           0,
@@ -64,29 +59,39 @@ told_allowed =
           refl,
           refl,
           granted_to_read (first 2) reader false (inl refl),
-          (λ n p a i low. seen_is (among (first 1 ∷ [])) (drop 4 told) 0 refl n p i low),
+          (λ n p a i low. seen_is (among (first 1 ∷ [])) (drop 3 told) 0 refl n p i low),
           (λ p v e. padded_reads 0 4096 bytes p v e),
           (refl, refl),
         ),
       ),
       asks,
     ) in
-    let replies : AllAllowed (drop 2 told) = ((inl (refl, refl, refl), refl), acts) in
-    let heard : AllAllowed (drop 1 told) = ((refl, inl refl), replies) in
-    (inl (2, record { lock = read; held = inl refl; life = refl; last = refl; first = omega arith; end = 2; known = refl; over = (omega arith, (λ p i. refl), inl refl) }, refl, reads), heard)
+    let replies : AllAllowed (drop 1 told) = ((inl (refl, refl, refl), refl), acts) in
+    ((refl, inl refl), replies)
 
 pub allowed : AllAllowed (story 1 (object_at 0) (past_after 40 scene))
 allowed = subst AllAllowed (sym told_is) told_allowed
 
 -- ---- what the theory says of this story
 
--- its one history: the write and the read
-pub history_is : history (λ c. evicted c told) nothing_lost told ≡ Read reader 0 8 bytes ∷ Made writer hi ∷ []
+-- the call is told the bytes then. Reads aren't in the map, but the theory's rule for them allows it here: what the reader takes each position for
+reads : Reads told reader 0 bytes
+reads p v e = padded_has 0 4096 bytes p v (omega arith) e
+
+abbrev pub with_read : List Entry
+with_read = Tells reader (Saw 0 8 bytes) ∷ told
+
+pub read_allowed : AllAllowed with_read
+read_allowed =
+    (inl (2, record { lock = read; held = inl refl; life = refl; last = refl; first = omega arith; end = 2; known = refl; over = (omega arith, (λ p i. refl), inl refl) }, refl, reads), told_allowed)
+
+-- the one history with it: the write and the read
+pub history_is : history (λ c. evicted c with_read) nothing_lost with_read ≡ Read reader 0 8 bytes ∷ Made writer hi ∷ []
 history_is = refl
 
 -- so what the read was told is the bytes of the history
 pub read_right : bytes ≡ read_of (Made writer hi ∷ []) 0 (min 8 (size_of (Made writer hi ∷ []) - 0))
-read_right = (allowed_lawful told told_allowed).1.0
+read_right = (allowed_lawful with_read read_allowed).1.0
 
 -- and no two locks that were held at once conflict
 pub locks_right : Locks told

@@ -1,7 +1,3 @@
-//! What the theory of one object (`lu_object_story`) sees of a run of the table: the story of an object in a past, line by line
-//! (`specs/Stories`), and worked scenarios whose stories are computed and shown to be allowed.
-//!
-//! That each past of the table has allowed stories isn't shown, so nothing is claimed of a trace yet.
+//! Worked scenarios, computed over the whole table, with the story of an object in each (`lu_object_map`): it is the written one, and
+//! allowed by the theory of bytes (`lu_object_story`).
 #![tactic(auto)]
-
-pub mod theorems;

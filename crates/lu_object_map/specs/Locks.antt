@@ -6,7 +6,7 @@ use Rattle.lu_lock.specs.Growth.{the_end}
 use Rattle.lu_target_rows.specs.Queues.{extent_of}
 use Rattle.lu_object_story.specs.Words.{Lock, Change, Write, Cut, Entry, Hold, Drop, Grant, Promote, covers}
 use Rattle.lu_object_points.specs.Points.{lock_at}
-use Rattle.lu_object_runs.specs.Lives.{number_of}
+use Rattle.lu_object_map.specs.Lives.{number_of}
 
 -- a lock on a range of the object
 abbrev pub lock_of : TableLock → Lock

@@ -1,16 +1,19 @@
 //! What the map from pasts to stories keeps, whatever the past. Each function does nothing: its contract is a theorem over the
 //! definitions of `specs/`.
 
-ghost use Rattle.std.specs.Prelude.{ℕ, true, false, List, Option, Some, ◌≡◌};
+ghost use Rattle.std.specs.Prelude.{ℕ, ◌<◌, true, false, List, Option, Some, ◌≡◌};
 ghost use Rattle.lu_base.specs.declared.ids.Who.{Who};
 ghost use Rattle.lu_words.specs.declared.changes.Flush.{Flush};
+ghost use Rattle.lu_words.specs.Words.{Line};
+ghost use Rattle.lu_client_rows.specs.Calls.{life_at};
 ghost use Rattle.lu_object_story.specs.Words.{Lock, Change, Entry, changes};
 ghost use Rattle.lu_object_story.specs.Folds.{HeldBy, WasGranted, evicted};
 ghost use Rattle.lu_object_story.specs.Guards.{Allowed, AllAllowed, UnderNumber};
 ghost use Rattle.lu_object_points.specs.Points.{change_of};
-ghost use Rattle.lu_object_runs.specs.Lives.{number_of};
-ghost use Rattle.lu_object_runs.specs.Locks.{given, held, spans, lock_over};
-ghost use Rattle.lu_object_runs.specs.Calls.{did};
+ghost use Rattle.lu_object_map.specs.Lives.{number_of, is_over, is_live};
+ghost use Rattle.lu_object_map.specs.Locks.{given, held, spans, lock_over};
+ghost use Rattle.lu_object_map.specs.Calls.{did};
+ghost use Rattle.lu_object_map.specs.Closes.{lost_by};
 
 /// No two lives share a number.
 #[tactic(auto, using(crate::proofs::Lives::same_life))]
@@ -35,4 +38,14 @@ pub fn locks_are_looked_up()
         → spans l change ≡ true → lock_over l.life change (held h) ≡ Some l.cookie }
     ensures granted { (k : ℕ) (h : List Entry) (l : Lock) → given k h ≡ Some l → WasGranted h l }
     ensures cookie { (k : ℕ) (h : List Entry) (l : Lock) → given k h ≡ Some l → l.cookie ≡ k }
+{}
+
+/// What counts no more.
+///
+/// - `over`: a life whose client has heard, of any target, that it is over isn't live, so no line of it counts.
+/// - `above`: what a close loses is above what is committed.
+#[tactic(auto, using(crate::proofs::Ends::over_ends, crate::proofs::Ends::lost_above))]
+pub fn lives_end_and_close_loses()
+    ensures over { (c : ℕ) (past : List Line) (h : List Entry) → is_over c (life_at c past) past ≡ true → is_live c past h ≡ false }
+    ensures above { (to boot : ℕ) (kept : List ℕ) (n : ℕ) → lost_by to boot kept n ≡ true → to < n }
 {}

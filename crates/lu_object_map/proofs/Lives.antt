@@ -2,7 +2,7 @@
 use Rattle.std.proofs.Common.{◌≡◌, ℕ, refl, ap, arith}
 use Rattle.std.specs.Prelude.{zero, suc}
 use Rattle.lu_base.specs.declared.ids.Who.{Who}
-use Rattle.lu_object_runs.specs.Lives.{pair, number_of}
+use Rattle.lu_object_map.specs.Lives.{pair, number_of}
 
 pub same_pair : (c d l m : ℕ) → pair c l ≡ pair d m → (c ≡ d) × (l ≡ m)
 same_pair zero zero l m e = (refl, omega arith)

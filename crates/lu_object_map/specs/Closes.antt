@@ -4,8 +4,8 @@ use Rattle.lu_words.specs.Carried.{Deed, Gone, Outcome}
 use Rattle.lu_target_rows.specs.Phase.{first_of}
 use Rattle.lu_object_story.specs.Words.{Entry, Close}
 use Rattle.lu_object_story.specs.Folds.{committed}
-use Rattle.lu_object_runs.specs.Lives.{number_of}
-use Rattle.lu_object_runs.specs.Requests.{among}
+use Rattle.lu_object_map.specs.Lives.{number_of}
+use Rattle.lu_object_map.specs.Requests.{among}
 
 -- the numbers of earlier boots above the committed one that aren't kept
 abbrev pub lost_by : (to boot : ℕ) → List ℕ → ℕ → Bool

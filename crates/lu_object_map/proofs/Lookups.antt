@@ -10,8 +10,8 @@ use Rattle.lu_object_story.specs.Guards.{Covers, UnderNumber, AllAllowed, Allowe
 use Rattle.lu_object_story.specs.History.{LocksAt}
 use Rattle.lu_object_story.proofs.World.{allowed_lawful}
 use Rattle.lu_object_points.specs.Points.{change_of}
-use Rattle.lu_object_runs.specs.Locks.{given, held, is_to_end, spans, lock_over}
-use Rattle.lu_object_runs.specs.Calls.{did, did_under}
+use Rattle.lu_object_map.specs.Locks.{given, held, is_to_end, spans, lock_over}
+use Rattle.lu_object_map.specs.Calls.{did, did_under}
 
 -- ---- a cookie
 
@@ -181,7 +181,7 @@ some_found c change (m ∷ ms) l (inr i) t = by (serves c change m) (some_found 
     by false j = j
 
 -- two that cover a position meet
-meet : (l m : Lock) (p : ℕ) → l.write ≡ true → covers l p ≡ true → covers m p ≡ true → conflict l m ≡ true
+pub meet : (l m : Lock) (p : ℕ) → l.write ≡ true → covers l p ≡ true → covers m p ≡ true → conflict l m ≡ true
 meet l m p w e f = by l.write l.last m.last w e f
   where
     by : (write : Bool) (a b : Option ℕ) → write ≡ true → (nat_lt l.first (suc p) && not_above p a) ≡ true → (nat_lt m.first (suc p) && not_above p b) ≡ true

@@ -10,9 +10,9 @@ use Rattle.lu_msg.specs.declared.messages.GrantNotice.{GrantNotice}
 use Rattle.lu_msg.specs.declared.messages.Reply.{Reply as ReplyTo}
 use Rattle.lu_msg.specs.declared.messages.Request.{Request as RequestOf}
 use Rattle.lu_object_story.specs.Words.{Op, Request, Message, Ask, Reply, Give, Block, Cancel, Entry}
-use Rattle.lu_object_runs.specs.Lives.{number_of}
-use Rattle.lu_object_runs.specs.Locks.{given}
-use Rattle.lu_object_runs.specs.Requests.{op_of, asked_as, among, answer_of}
+use Rattle.lu_object_map.specs.Lives.{number_of}
+use Rattle.lu_object_map.specs.Locks.{given}
+use Rattle.lu_object_map.specs.Requests.{op_of, asked_as, among, answer_of}
 
 abbrev pub request_as : (life xid : ℕ) → Op → Request
 request_as c x o = record { life = c; xid = x; op = o }

@@ -13,7 +13,7 @@ use Rattle.lu_target_rows.specs.Windows.{has_number}
 use Rattle.lu_client_rows.specs.Messages.{padded, part_first, part_count}
 use Rattle.lu_object_story.specs.Words.{Lock, Write, Cut, Op, Enqueue, Get, Flush, Size, Request, Answer, Granted, Waiting, Content, Done, Sized, Uncovered, Entry, Flies}
 use Rattle.lu_object_points.specs.Points.{is_write, last_of}
-use Rattle.lu_object_runs.specs.Locks.{range_of, given}
+use Rattle.lu_object_map.specs.Locks.{range_of, given}
 
 -- ---- requests
 

@@ -16,12 +16,12 @@ use Rattle.lu_words.specs.Words as word
 use Rattle.lu_words.specs.Words.{Line, is_target}
 use Rattle.lu_client_rows.specs.Calls.{life_at}
 use Rattle.lu_object_story.specs.Words.{Request, Entry, Flies, Heard, Hold, Drop, Forgets, Grant, Wait, Promote, Acts, Txn, Release, Evict, Commit, Send}
-use Rattle.lu_object_runs.specs.Lives.{number_of, is_live}
-use Rattle.lu_object_runs.specs.Locks.{lock_of}
-use Rattle.lu_object_runs.specs.Requests.{op_of, among, answer_of}
-use Rattle.lu_object_runs.specs.Calls.{did, takes, saw}
-use Rattle.lu_object_runs.specs.Messages.{request_as, by_client, by_target}
-use Rattle.lu_object_runs.specs.Closes.{closes}
+use Rattle.lu_object_map.specs.Lives.{number_of, is_live}
+use Rattle.lu_object_map.specs.Locks.{lock_of}
+use Rattle.lu_object_map.specs.Requests.{op_of, among, answer_of}
+use Rattle.lu_object_map.specs.Calls.{did, takes}
+use Rattle.lu_object_map.specs.Messages.{request_as, by_client, by_target}
+use Rattle.lu_object_map.specs.Closes.{closes}
 
 -- ---- whose line it is
 
@@ -85,7 +85,6 @@ step t r node past (word.Drop u l) h = of_life_at t u node past (λ c. if_on r l
 step t r node past (word.Knows u boot) h = of_life_at t u node past (λ c. Some (Forgets c)) h
 step t r node past (word.Changes q change) h = if same_resource q r then of_life node past (λ c. did c change h) h else h
 step t r node past (word.WritesBack q change) h = if same_resource q r then of_life node past (λ c. takes c change h) h else h
-step t r node past (word.Told slot at answer work) h = of_life node past (λ c. saw t r c answer work) h
 step t r node past (word.Grant l asked) h = of_target t node (grants r l asked h) h
 step t r node past (word.Wait l asked) h = of_target t node (served r asked h (λ q. Wait q (lock_of l))) h
 step t r node past (word.Act d) h = of_target t node (acts r d h) h
