@@ -34,7 +34,7 @@ use Rattle.lu_covered.specs.Covered.{IsBare, ChangesNoBytes}
 use Rattle.lu_covered.specs.Deeds.{whole}
 use Rattle.lu_covered.specs.Heads.{Head}
 use Rattle.lu_covered.specs.Imports.{queue_at}
-use Rattle.lu_guards.proofs.Guards.{In, Was, JustHeard, Begins, IsGlimpse, ReadsOn, ChangesOn, used_in, LeftSize, SizesStand, LockStand, GetStand, StatStand, LockGranted, WaitStand, MarkStand, ForgotStand, LookStand, MovedStand, HasChange, FlushStand, Locked, StandsOk, EntryOk}
+use Rattle.lu_guards.proofs.Guards.{In, Was, JustHeard, Begins, IsGlimpse, ReadsOn, ChangesOn, used_in, LeftSize, SizesStand, LockStand, GetStand, StatStand, LockGranted, LockBrought, WaitStand, MarkStand, ForgotStand, LookStand, MovedStand, HasChange, FlushStand, Locked, HeldFor, StandsOk, EntryOk}
 use Rattle.lu_guards.proofs.HeedMarks.{marks_of}
 use Rattle.lu_guards.proofs.Grown.{Grown}
 use Rattle.lu_guards.proofs.Lists.{self, turn}
@@ -279,7 +279,7 @@ module _ (head : Head) (past : List Line) (now : At) (c slot : ℕ) (r : Running
   ends : AllEnd (used_in ok.stage)
   ends u i = ⊎_elim
       (λ (j : In u (used_in q.stage)). k.used u j)
-      (λ (j : (l : Locked c past u.want) × (l.holding.lock ≡ u.lock)). subst (λ (l : Lock). reaches_end l.ask.policy ≡ true) j.1 (held_whole head past c u.want g s j.0).1)
+      (λ (j : HeldFor c past q u). subst (λ (l : Lock). reaches_end l.ask.policy ≡ true) j.is (held_whole head past c u.want g s j.locked).1)
       (ok.uses u i)
 
   abbrev Goal : Type 0
@@ -342,7 +342,7 @@ module _ (head : Head) (past : List Line) (now : At) (c slot : ℕ) (r : Running
 
   of_moved : MovedStand past now c q ok.stage → Goal
   of_moved (inl h) = ⊎_elim
-      (λ p. came (stood_at (Enqueued h.work) p.0))
+      (λ (p : LockBrought past now q h.work h.lock). came (stood_at (Enqueued h.work) p.stage))
       (λ (p : LockGranted past now q h.work h.lock). absurd (stood_at (Waits h.work p.target p.waiting p.marked) p.stage))
       h.from
     where

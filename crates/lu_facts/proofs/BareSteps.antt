@@ -156,7 +156,7 @@ module _ (head : Head) (past : List Line) (g : Grown head past) (s : BareSoFar h
   pub no_back_ask : (c t : ℕ) (q : Queued) → BackAskOk past c t q → ⊥
   no_back_ask c t q ok = taken past s.still ok.takes
     where
-      taken : (p : List Line) → IsStill p → TakesBack p c ok.holding.lock.resource ok.change → ⊥
+      taken : (p : List Line) → IsStill p → TakesBack p c ok.holding.lock ok.change → ⊥
       taken [] still w = w
       taken (x ∷ p) still w = subst (λ (e : Entry). IsStill (record x { entry = e } ∷ p)) w.1 still
 

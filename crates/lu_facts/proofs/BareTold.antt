@@ -31,7 +31,7 @@ use Rattle.lu_client_rows.specs.Stripes.{stripes}
 use Rattle.lu_client_rows.specs.Wants.{wants_of}
 use Rattle.lu_covered.specs.Covered.{IsOnBytes, ChangesNoBytes}
 use Rattle.lu_covered.specs.Heads.{Head}
-use Rattle.lu_guards.proofs.Guards.{In, Begins, BeginOk, NamesAskOk, SizeAskOk, LockAskOk, GetAskOk, QueuesOk, ReadsOn, ChangesOn, IsChange, held_by, store_by, AllSized, LeftSize, SizesSoFar, heard_sizes, HasSizes, SizesStand, LacksOf, LockStand, GetStand, KnowsFile, ToldFile, GoesOn, StatOf, StatStand, Replied, LockGranted, CameStand, MovedStand, FlushStand, StandsOk, work_in, wanted_by, SizesToldOk, ReadToldOk, StatToldOk, FlushFrom, FlushedOk}
+use Rattle.lu_guards.proofs.Guards.{In, Begins, BeginOk, NamesAskOk, SizeAskOk, LockAskOk, GetAskOk, QueuesOk, ReadsOn, ChangesOn, IsChange, held_by, store_by, AllSized, LeftSize, SizesSoFar, heard_sizes, HasSizes, SizesStand, LacksOf, LockStand, GetStand, KnowsFile, ToldFile, GoesOn, StatOf, StatStand, Replied, LockGranted, LockBrought, CameStand, MovedStand, FlushStand, StandsOk, work_in, wanted_by, SizesToldOk, ReadToldOk, StatToldOk, FlushFrom, FlushedOk}
 use Rattle.lu_guards.proofs.Grown.{Grown}
 use Rattle.lu_facts.proofs.BareLooks.{IsEmpty, not_reached, no_file_size, cut_short}
 use Rattle.lu_facts.proofs.BareCalls.{BareWork, SizesWork, BareStage, BareRunning, BareAnswer, BareSoFar, bare_empty, heard_bare, held_read, no_left, no_change, no_get, no_flush, not_moved}
@@ -310,7 +310,7 @@ module _ (head : Head) (past : List Line) (now : At) (c : ℕ) (here : now.node 
 
       came : (ok.pins ≡ ok.running.pins) → CameStand past now ok.running ok.stage → Narrower
       came same h = ⊎_elim
-          (λ p. of (subst (BareStage ok.running) p.0 st) p.0 p.1.0)
+          (λ (p : LockBrought past now ok.running h.work h.lock). of (subst (BareStage ok.running) p.stage st) p.stage p.answers)
           (λ (p : LockGranted past now ok.running h.work h.lock). absurd (subst (BareStage ok.running) p.stage st))
           h.from
         where

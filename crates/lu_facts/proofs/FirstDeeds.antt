@@ -23,24 +23,32 @@ use Rattle.lu_guards.proofs.ClientLines.{IsNames, asked_names, some_is}
 use Rattle.lu_facts.proofs.Groups.{turn, Acted, Promoted, tells_wait, Gave}
 use Rattle.lu_facts.proofs.DoneGrows.{did_acted}
 use Rattle.lu_facts.proofs.All.{holds}
+use Rattle.lu_facts.proofs.Lines.{acted_more}
 use Rattle.lu_facts.proofs.Sides.{acted_some, ActedKind, acted_kind, names_bring}
 use Rattle.lu_facts.proofs.ObjectAnswers.{OfObject, acted_object}
 
--- what the metadata target did, over the past then
-pub record Does (head : Head) (d : Deed) : Type 0 where
+-- what the metadata target did, over the past then; what that had done is done now
+pub record Does (head : Head) (story : List Line) (d : Deed) : Type 0 where
   pub past : List Line
   pub grown : Grown head past
   pub at : At
   pub does : ActOk head.osts (only 0 past) at d ⊎ TxnOk head.osts (only 0 past) at d
+  pub older : (e : Deed) → Acted (only 0 past) e → Acted story e
 
-pub first_does : (head : Head) (past : List Line) (d : Deed) → Grown head past → Acted (only 0 past) d → Does head d
+does_more : (head : Head) (d : Deed) (old new : List Line) → ((e : Deed) → Acted old e → Acted new e) → Does head old d → Does head new d
+does_more head d old new more k = record { past = k.past; grown = k.grown; at = k.at; does = k.does; older = λ e a. more e (k.older e a) }
+
+pub first_does : (head : Head) (past : List Line) (d : Deed) → Grown head past → Acted (only 0 past) d → Does head (only 0 past) d
 first_does head [] d g a = absurd a
 first_does head (l ∷ past) d g a =
-    cond_both (concerns 0 l.at.node l.entry) (l ∷ only 0 past) (only 0 past) (λ (p : List Line). Acted p d → Does head d)
-    (λ o b. by l.at.node l.entry g.0 o b (first_does head past d g.1))
+    cond_both (concerns 0 l.at.node l.entry) (l ∷ only 0 past) (only 0 past) (λ (p : List Line). Acted p d → Does head p d)
+    (λ o b. by l.at.node l.entry g.0 o b (λ c. does_more head d (only 0 past) (l ∷ only 0 past) (λ e. acted_more l.at l.entry (only 0 past) e) (first_does head past d g.1 c)))
     (λ o b. first_does head past d g.1 b)
     a
   where
+    Now : Type 0
+    Now = Does head (l ∷ only 0 past) d
+
     is_first : (u : ℕ) → nat_eq 0 u ≡ true → 0 ≡ u
     is_first u o = eqb-true 0 u o
 
@@ -48,14 +56,14 @@ first_does head (l ∷ past) d g a =
     Here : Node → Type 0
     Here node = ActOk head.osts (only 0 past) (turn l.at.stamp node) d ⊎ TxnOk head.osts (only 0 past) (turn l.at.stamp node) d
 
-    now : (node : Node) → Here node → Does head d
-    now node k = record { past = past; grown = g.1; at = turn l.at.stamp node; does = k }
+    now : (node : Node) → Here node → Now
+    now node k = record { past = past; grown = g.1; at = turn l.at.stamp node; does = k; older = λ e a. acted_more l.at l.entry (only 0 past) e a }
 
-    acts : (u : ℕ) (x : Deed) → 0 ≡ u → x ≡ d → ActsOk head.osts (only 0 past) (turn l.at.stamp (Target u)) u x → Does head d
+    acts : (u : ℕ) (x : Deed) → 0 ≡ u → x ≡ d → ActsOk head.osts (only 0 past) (turn l.at.stamp (Target u)) u x → Now
     acts u x z p (inl k) = now (Target u) (inl (subst (λ (y : Deed). ActOk head.osts (only 0 past) (turn l.at.stamp (Target u)) y) p k.1))
     acts u x z p (inr k) = absurd (let high = k.0 in omega (arith, high, z))
 
-    txns : (u : ℕ) (x : Deed) → 0 ≡ u → x ≡ d → TxnsOk head.osts (only 0 past) (turn l.at.stamp (Target u)) u x → Does head d
+    txns : (u : ℕ) (x : Deed) → 0 ≡ u → x ≡ d → TxnsOk head.osts (only 0 past) (turn l.at.stamp (Target u)) u x → Now
     txns u x z p (inl k) = now (Target u) (inr (subst (λ (y : Deed). TxnOk head.osts (only 0 past) (turn l.at.stamp (Target u)) y) p k.1))
     txns u x z p (inr k) = absurd (let high = k.0 in omega (arith, high, z))
 
@@ -63,7 +71,7 @@ first_does head (l ∷ past) d g a =
     grants u lock x z (inl k) = did_acted (only 0 past) x k.1.did
     grants u lock x z (inr k) = absurd (let high = k.0 in omega (arith, high, z))
 
-    by : (node : Node) (e : Entry) → Allowed head past (turn l.at.stamp node) e → concerns 0 node e ≡ true → Acted (line (turn l.at.stamp node) e ∷ only 0 past) d → (Acted (only 0 past) d → Does head d) → Does head d
+    by : (node : Node) (e : Entry) → Allowed head past (turn l.at.stamp node) e → concerns 0 node e ≡ true → Acted (line (turn l.at.stamp node) e ∷ only 0 past) d → (Acted (only 0 past) d → Now) → Now
     by (Client c) (Act x) k o b h = absurd k.ok
     by (Client c) (Made x) k o b h = absurd k.ok
     by (Client c) (Grant lock asked) k o b h = absurd k.ok

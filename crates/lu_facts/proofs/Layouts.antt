@@ -1,7 +1,7 @@
--- Where files lie: each stripe of a file on one of the run's object storage targets. So it is of each layout in the tree, since a new file's
--- is so and no operation changes one; and so of each layout that is told.
-use Rattle.std.proofs.Common.{◌≡◌, ℕ, ℤ, zero, suc, ◌+◌, ◌%◌, ◌<◌, ◌≤◌, Bool, true, false, List, [], ◌∷◌, Option, Some, None, ◌⊎◌, inl, inr, ⊎_elim, refl, sym, subst, ap, arith}
-use Rattle.std.specs.Prelude.{length, map, slice_index, ◌==◌, if◌then◌else◌}
+-- The layout of a file is the one that its create gave it, since no operation changes one: so what holds of each new file's layout holds of each
+-- layout in the tree, and of each that is told. Each stripe of a file lies on one of the run's object storage targets.
+use Rattle.std.proofs.Common.{◌≡◌, ◌∙◌, ℕ, ℤ, zero, suc, ◌+◌, ◌%◌, ◌<◌, ◌≤◌, Bool, true, false, List, [], ◌∷◌, Option, Some, None, ◌⊎◌, inl, inr, ⊎_elim, refl, sym, subst, ap, arith}
+use Rattle.std.specs.Prelude.{◌≢◌, length, map, slice_index, ◌==◌, if◌then◌else◌}
 use Rattle.std.specs.List.{range_with_len}
 use Rattle.std.proofs.lemmas.Bool.{cond_both}
 use Rattle.std.proofs.lemmas.Bool.Decides.{nat_tests}
@@ -19,18 +19,20 @@ use Rattle.lu_msg.specs.declared.operations.Op.TheVariants as op
 use Rattle.lu_part.specs.declared.parts.Part.TheVariants as part
 use Rattle.lu_machine.specs.declared.child.Child.{Child}
 use Rattle.lu_machine.specs.declared.child.Child.TheVariants.{Dir, File}
-use Rattle.lu_machine.specs.Tree.{Tree, same_fid, fid_of, child, listing, attributes, layout}
+use Rattle.lu_machine.specs.Tree.{Tree, no_file, same_fid, fid_of, child, listing, attributes, layout}
 use Rattle.lu_machine.specs.Change.{Change, MakesFile, Leads, Drops, Parted, SetMode, SetLinks, Leaves, change, changed}
 use Rattle.lu_machine.specs.Effect.{on_layout}
 use Rattle.lu_machine.specs.Striping.{stripe_size, stripe_count, is_bad, stripe_targets, new_layout}
 use Rattle.lu_machine.specs.Plan.{Plan, Refuse, LookAttr, Outcome, outcome}
-use Rattle.lu_machine.specs.Table.{root, there, absent, walk_up, last_of, tells, does, row_lookup, row_stat, row_list, row_layout, row_mkdir, row_create, row_link, row_unlink, row_rmdir, passes, moves, row_replace, row_rename, rename, row_chmod, row_open, plan}
-use Rattle.lu_machine.specs.Footprint.{Every, empty, answer}
-use Rattle.lu_machine.specs.Removal.{contents}
+use Rattle.lu_machine.specs.Table.{made_by, root, there, absent, walk_up, last_of, tells, does, row_lookup, row_stat, row_list, row_layout, row_mkdir, row_create, row_link, row_unlink, row_rmdir, passes, moves, row_replace, row_rename, rename, row_chmod, row_open, plan}
+use Rattle.lu_machine.specs.Footprint.{Operation, Every, empty, after, answer}
+use Rattle.lu_machine.specs.Removal.{Item, contents}
 use Rattle.lu_machine.specs.Fits.{answer_fits}
 use Rattle.lu_machine.proofs.Effects.{layout_after}
 use Rattle.lu_machine.proofs.Fits.{answers_fit}
-use Rattle.lu_machine.proofs.Walks.{there_ends, absent_ends, if_empty_ends, walk_ends, walk_up_ends, to_last_ends}
+use Rattle.lu_machine.proofs.Keys.{fid_tells}
+use Rattle.lu_machine.proofs.Outcomes.{IsReached}
+use Rattle.lu_machine.proofs.Walks.{IsNamed, there_ends, absent_ends, if_empty_ends, walk_ends, walk_up_ends, to_last_ends}
 use Rattle.lu_words.specs.Carried.{Deed}
 use Rattle.lu_words.specs.Words.{Line}
 use Rattle.lu_words.specs.Concerns.{only}
@@ -38,7 +40,7 @@ use Rattle.lu_covered.specs.TargetStates.{none, next_number, server_of}
 use Rattle.lu_covered.specs.Heads.{Head}
 use Rattle.lu_guards.proofs.StoryGuards.{ActOk, TxnOk}
 use Rattle.lu_guards.proofs.Grown.{Grown}
-use Rattle.lu_facts.proofs.Groups.{Acted, HoldsAt, items_of}
+use Rattle.lu_facts.proofs.Groups.{Acted, IsMade, HoldsAt, ItemOk, items_of}
 use Rattle.lu_facts.proofs.All.{holds}
 use Rattle.lu_facts.proofs.OverItems.{over_now}
 use Rattle.lu_facts.proofs.OnNames.{IsOnNames}
@@ -82,30 +84,33 @@ new_on osts number size count l is = by (is_bad osts (stripe_size size) (stripe_
 
 -- ---- the tree
 
--- each file's layout; where no file is, there is none
-abbrev pub Laid : ℕ → Tree → Type 0
-Laid osts t = (f : Fid) → OnTargets osts (layout t f).targets
+-- a claim of each file and its layout; where no file is, there is none
+abbrev pub LaidBy : (Fid → Raid0 → Type 0) → Tree → Type 0
+LaidBy L t = (f : Fid) → L f (layout t f)
 
-abbrev Lays : ℕ → Change → Type 0
-Lays osts (MakesFile f l) = OnTargets osts l.targets
-Lays osts _ = Unit {0}
+abbrev pub Lays : (Fid → Raid0 → Type 0) → Change → Type 0
+Lays L (MakesFile f l) = L f l
+Lays L _ = Unit {0}
 
-laid_change : (osts : ℕ) (t : Tree) (x : Change) → Lays osts x → Laid osts t → Laid osts (change t x)
-laid_change osts t x lays laid f = subst (λ (l : Raid0). OnTargets osts l.targets) (sym (layout_after t x f)) (by x lays)
+laid_change : (L : Fid → Raid0 → Type 0) (t : Tree) (x : Change) → Lays L x → LaidBy L t → LaidBy L (change t x)
+laid_change L t x lays laid f = subst (L f) (sym (layout_after t x f)) (by x lays)
   where
-    by : (x : Change) → Lays osts x → OnTargets osts (on_layout x f (layout t f)).targets
-    by (MakesFile g l) lays = cond_both (same_fid g f) l (layout t f) (λ (v : Raid0). OnTargets osts v.targets) (λ _. lays) (λ _. laid f)
+    by : (x : Change) → Lays L x → L f (on_layout x f (layout t f))
+    by (MakesFile g l) lays = ⊎_elim
+        (λ (same : (same_fid g f ≡ true) × (g ≡ f)). subst (λ (b : Bool). L f (if b then l else layout t f)) (sym same.0) (subst (λ (h : Fid). L h l) same.1 lays))
+        (λ (other : (same_fid g f ≡ false) × (g ≢ f)). subst (λ (b : Bool). L f (if b then l else layout t f)) (sym other.0) (laid f))
+        (fid_tells g f)
     by _ lays = laid f
 
-laid_changed : (osts : ℕ) (t : Tree) (xs : List Change) → Every (Lays osts) xs → Laid osts t → Laid osts (changed t xs)
-laid_changed osts t [] lays laid = laid
-laid_changed osts t (x ∷ xs) lays laid = laid_changed osts (change t x) xs lays.1 (laid_change osts t x lays.0 laid)
+laid_changed : (L : Fid → Raid0 → Type 0) (t : Tree) (xs : List Change) → Every (Lays L) xs → LaidBy L t → LaidBy L (changed t xs)
+laid_changed L t [] lays laid = laid
+laid_changed L t (x ∷ xs) lays laid = laid_changed L (change t x) xs lays.1 (laid_change L t x lays.0 laid)
 
 -- ---- what operations change
 
-module _ (osts : ℕ) (t : Tree) where
+module _ (L : Fid → Raid0 → Type 0) (t : Tree) where
   abbrev AllLay : Outcome → Type 0
-  AllLay o = Every (Lays osts) o.changes
+  AllLay o = Every (Lays L) o.changes
 
   abbrev PlanLays : Plan → Type 0
   PlanLays p = AllLay (outcome t p)
@@ -125,7 +130,7 @@ module _ (osts : ℕ) (t : Tree) where
   layout_lays cs (Dir d) = tt
   layout_lays cs (File f) = tt
 
-  create_lays : (number : TxnOf) (d : Fid) (n : List ℕ) (l : Option Raid0) → ((x : Raid0) → l ≡ Some x → OnTargets osts x.targets) → PlanLays (row_create number d n l)
+  create_lays : (number : TxnOf) (d : Fid) (n : List ℕ) (l : Option Raid0) → ((x : Raid0) → l ≡ Some x → L (made_by number) x) → PlanLays (row_create number d n l)
   create_lays number d n None on = tt
   create_lays number d n (Some l) on = (on l refl, (tt, tt))
 
@@ -169,35 +174,46 @@ module _ (osts : ℕ) (t : Tree) where
   open_lays number who (Dir d) = tt
   open_lays number who (File f) = (tt, tt)
 
-  plan_lays : (number : TxnOf) (who : Who) (o : Op) → PlanLays (plan osts number who o)
-  plan_lays number who (op.Lookup path) = walk_ends t AllLay refused root path (λ cs. row_lookup cs (last_of root cs)) (λ cs _. tt)
-  plan_lays number who (op.Stat path) = walk_ends t AllLay refused root path (λ cs. row_stat cs (last_of root cs)) (λ cs _. stat_lays cs (last_of root cs))
-  plan_lays number who (op.List path) = walk_ends t AllLay refused root path (λ cs. row_list cs (last_of root cs)) (λ cs _. list_lays cs (last_of root cs))
-  plan_lays number who (op.Layout path) = walk_ends t AllLay refused root path (λ cs. row_layout cs (last_of root cs)) (λ cs _. layout_lays cs (last_of root cs))
-  plan_lays number who (op.Mkdir path) =
+  -- as it holds of the layout that a create gives
+  pub plan_lays : (osts : ℕ) (number : TxnOf) (who : Who) (o : Op) → ((path : List (List ℕ)) (size : ℕ) (count : ℤ) (l : Raid0) → o ≡ op.Create path size count → new_layout osts number size count ≡ Some l → L (made_by number) l) → PlanLays (plan osts number who o)
+  plan_lays osts number who (op.Lookup path) made = walk_ends t AllLay refused root path (λ cs. row_lookup cs (last_of root cs)) (λ cs _. tt)
+  plan_lays osts number who (op.Stat path) made = walk_ends t AllLay refused root path (λ cs. row_stat cs (last_of root cs)) (λ cs _. stat_lays cs (last_of root cs))
+  plan_lays osts number who (op.List path) made = walk_ends t AllLay refused root path (λ cs. row_list cs (last_of root cs)) (λ cs _. list_lays cs (last_of root cs))
+  plan_lays osts number who (op.Layout path) made = walk_ends t AllLay refused root path (λ cs. row_layout cs (last_of root cs)) (λ cs _. layout_lays cs (last_of root cs))
+  plan_lays osts number who (op.Mkdir path) made =
       to_last_ends t AllLay refused EEXIST path (λ cs d n. absent (row_mkdir number d n)) (λ cs d n. absent_ends t AllLay refused (row_mkdir number d n) (child t d n) (λ _. (tt, (tt, tt))))
-  plan_lays number who (op.Create path size count) =
+  plan_lays osts number who (op.Create path size count) made =
       to_last_ends t AllLay refused EEXIST path (λ cs d n. absent (row_create number d n (new_layout osts number size count)))
       (λ cs d n. absent_ends t AllLay refused (row_create number d n (new_layout osts number size count)) (child t d n)
-      (λ _. create_lays number d n (new_layout osts number size count) (λ l is. new_on osts number size count l is)))
-  plan_lays number who (op.Link old new) = walk_ends t AllLay refused root old (λ cs. row_link new (last_of root cs)) (λ cs _. link_lays new (last_of root cs))
-  plan_lays number who (op.Unlink path) =
+      (λ _. create_lays number d n (new_layout osts number size count) (λ l is. made path size count l refl is)))
+  plan_lays osts number who (op.Link old new) made = walk_ends t AllLay refused root old (λ cs. row_link new (last_of root cs)) (λ cs _. link_lays new (last_of root cs))
+  plan_lays osts number who (op.Unlink path) made =
       to_last_ends t AllLay refused EISDIR path (λ cs d n. there (row_unlink d n)) (λ cs d n. there_ends t AllLay refused (row_unlink d n) (child t d n) (λ c _. unlink_lays d n c))
-  plan_lays number who (op.Rmdir path) =
+  plan_lays osts number who (op.Rmdir path) made =
       to_last_ends t AllLay refused EBUSY path (λ cs d n. there (row_rmdir d n)) (λ cs d n. there_ends t AllLay refused (row_rmdir d n) (child t d n) (λ c _. rmdir_lays d n c))
-  plan_lays number who (op.Rename old new) = rename_lays old new
-  plan_lays number who (op.Chmod path mode) = walk_ends t AllLay refused root path (λ cs. row_chmod mode (last_of root cs)) (λ cs _. chmod_lays mode (last_of root cs))
-  plan_lays number who (op.Open path) = walk_ends t AllLay refused root path (λ cs. row_open number who (last_of root cs)) (λ cs _. open_lays number who (last_of root cs))
-  plan_lays number who (op.Close opened fid) = (tt, tt)
-  plan_lays number who (op.Enqueue resource mode extent) = tt
-  plan_lays number who (op.Get resource cookie page) = tt
-  plan_lays number who (op.Put resource cookie offset bytes) = tt
-  plan_lays number who (op.Cut resource cookie size) = tt
-  plan_lays number who (op.Size resource) = tt
+  plan_lays osts number who (op.Rename old new) made = rename_lays old new
+  plan_lays osts number who (op.Chmod path mode) made = walk_ends t AllLay refused root path (λ cs. row_chmod mode (last_of root cs)) (λ cs _. chmod_lays mode (last_of root cs))
+  plan_lays osts number who (op.Open path) made = walk_ends t AllLay refused root path (λ cs. row_open number who (last_of root cs)) (λ cs _. open_lays number who (last_of root cs))
+  plan_lays osts number who (op.Close opened fid) made = (tt, tt)
+  plan_lays osts number who (op.Enqueue resource mode extent) made = tt
+  plan_lays osts number who (op.Get resource cookie page) made = tt
+  plan_lays osts number who (op.Put resource cookie offset bytes) made = tt
+  plan_lays osts number who (op.Cut resource cookie size) made = tt
+  plan_lays osts number who (op.Size resource) made = tt
 
--- the metadata target's tree
-pub laid : (head : Head) (past : List Line) → Grown head past → Laid head.osts (server_of head.osts (only 0 past)).tree
-laid head past g f = subst (λ (l : Raid0). OnTargets head.osts l.targets) (at.history.tree (part.Layout f)) (left f)
+-- after an operation
+pub laid_after : (L : Fid → Raid0 → Type 0) (osts : ℕ) (t : Tree) (a : Operation)
+    → ((path : List (List ℕ)) (size : ℕ) (count : ℤ) (l : Raid0) → a.op ≡ op.Create path size count → new_layout osts a.number size count ≡ Some l → L (made_by a.number) l) → LaidBy L t → LaidBy L (after osts t a)
+laid_after L osts t a new laid = laid_changed L t (outcome t (plan osts a.number a.who a.op)).changes (plan_lays L t osts a.number a.who a.op new) laid
+
+-- it holds where there is no file, and of the layout that each create of the story gives
+pub record Given (osts : ℕ) (story : List Line) (L : Fid → Raid0 → Type 0) : Type 0 where
+  pub none : (f : Fid) → L f no_file.layout
+  pub new : (d : Deed) → Acted story d → IsMade d → (path : List (List ℕ)) (size : ℕ) (count : ℤ) (l : Raid0) → d.op ≡ op.Create path size count → new_layout osts d.reply.txn size count ≡ Some l → L (made_by d.reply.txn) l
+
+-- so of each file in the metadata target's tree
+pub laid_by : (head : Head) (past : List Line) (L : Fid → Raid0 → Type 0) → Grown head past → Given head.osts (only 0 past) L → LaidBy L (server_of head.osts (only 0 past)).tree
+laid_by head past L g k f = subst (L f) (at.history.tree (part.Layout f)) (left f)
   where
     story : List Line
     story = only 0 past
@@ -205,20 +221,26 @@ laid head past g f = subst (λ (l : Raid0). OnTargets head.osts l.targets) (at.h
     at : HoldsAt head story
     at = (holds head past g).at 0
 
-    left : Laid head.osts (contents head.osts empty (items_of head.osts story))
+    made : (is : List Item) (a : Operation) → ItemOk head.osts story is a → (path : List (List ℕ)) (size : ℕ) (count : ℤ) (l : Raid0) → a.op ≡ op.Create path size count → new_layout head.osts a.number size count ≡ Some l → L (made_by a.number) l
+    made is a ok path size count l creates new =
+        let number : ok.deed.reply.txn ≡ a.number = ap (λ (o : Operation). o.number) ok.operates in
+        subst (λ (n : TxnOf). L (made_by n) l) number
+        (k.new ok.deed ok.acted ok.made path size count l (ap (λ (o : Operation). o.op) ok.operates ∙ creates) (ap (λ (n : TxnOf). new_layout head.osts n size count) number ∙ new))
+
+    left : LaidBy L (contents head.osts empty (items_of head.osts story))
     left =
-        over_now head story (λ n t. Laid head.osts t) (λ n le f. tt)
-        (λ is a n ok lt h. let t = contents head.osts empty is in laid_changed head.osts t (outcome t (plan head.osts a.number a.who a.op)).changes (plan_lays head.osts t a.number a.who a.op) h)
+        over_now head story (λ n t. LaidBy L t) (λ n le f. k.none f)
+        (λ is a n ok lt h. laid_after L head.osts (contents head.osts empty is) a (made is a ok) h)
         (λ n t who h. h) (λ n m t le h. h) at
 
 -- ---- what is told
 
--- a layout that is told is on object storage targets of the run: that of a file that is open, or stated, or asked for
-abbrev pub IsLaid : ℕ → Answer → Type 0
-IsLaid osts (told.FileStat fid mode links l) = OnTargets osts l.targets
-IsLaid osts (told.OpenFile fid number l) = OnTargets osts l.targets
-IsLaid osts (told.Layout l) = OnTargets osts l.targets
-IsLaid osts _ = Unit {0}
+-- the layout that an answer tells: that of a file that is open, or stated, or asked for
+abbrev pub TellsBy : (Fid → Raid0 → Type 0) → Answer → Type 0
+TellsBy L (told.FileStat fid mode links l) = L fid l
+TellsBy L (told.OpenFile fid number l) = L fid l
+TellsBy L (told.Layout l) = (f : Fid) × L f l
+TellsBy L _ = Unit {0}
 
 abbrev TellsNone : Op → Type 0
 TellsNone (op.Stat path) = ⊥
@@ -226,89 +248,129 @@ TellsNone (op.Layout path) = ⊥
 TellsNone (op.Open path) = ⊥
 TellsNone o = IsOnNames o
 
-other_laid : (osts : ℕ) (o : Op) (a : Answer) → answer_fits o a ≡ true → TellsNone o → IsLaid osts a
-other_laid osts (op.Lookup path) (told.FileStat f bits links l) fits other = absurd (cc)
-other_laid osts (op.Lookup path) (told.OpenFile f number l) fits other = absurd (cc)
-other_laid osts (op.Lookup path) (told.Layout l) fits other = absurd (cc)
-other_laid osts (op.List path) (told.FileStat f bits links l) fits other = absurd (cc)
-other_laid osts (op.List path) (told.OpenFile f number l) fits other = absurd (cc)
-other_laid osts (op.List path) (told.Layout l) fits other = absurd (cc)
-other_laid osts (op.Mkdir path) (told.FileStat f bits links l) fits other = absurd (cc)
-other_laid osts (op.Mkdir path) (told.OpenFile f number l) fits other = absurd (cc)
-other_laid osts (op.Mkdir path) (told.Layout l) fits other = absurd (cc)
-other_laid osts (op.Create path size count) (told.FileStat f bits links l) fits other = absurd (cc)
-other_laid osts (op.Create path size count) (told.OpenFile f number l) fits other = absurd (cc)
-other_laid osts (op.Create path size count) (told.Layout l) fits other = absurd (cc)
-other_laid osts (op.Link old new) (told.FileStat f bits links l) fits other = absurd (cc)
-other_laid osts (op.Link old new) (told.OpenFile f number l) fits other = absurd (cc)
-other_laid osts (op.Link old new) (told.Layout l) fits other = absurd (cc)
-other_laid osts (op.Unlink path) (told.FileStat f bits links l) fits other = absurd (cc)
-other_laid osts (op.Unlink path) (told.OpenFile f number l) fits other = absurd (cc)
-other_laid osts (op.Unlink path) (told.Layout l) fits other = absurd (cc)
-other_laid osts (op.Rmdir path) (told.FileStat f bits links l) fits other = absurd (cc)
-other_laid osts (op.Rmdir path) (told.OpenFile f number l) fits other = absurd (cc)
-other_laid osts (op.Rmdir path) (told.Layout l) fits other = absurd (cc)
-other_laid osts (op.Rename old new) (told.FileStat f bits links l) fits other = absurd (cc)
-other_laid osts (op.Rename old new) (told.OpenFile f number l) fits other = absurd (cc)
-other_laid osts (op.Rename old new) (told.Layout l) fits other = absurd (cc)
-other_laid osts (op.Chmod path mode) (told.FileStat f bits links l) fits other = absurd (cc)
-other_laid osts (op.Chmod path mode) (told.OpenFile f number l) fits other = absurd (cc)
-other_laid osts (op.Chmod path mode) (told.Layout l) fits other = absurd (cc)
-other_laid osts (op.Close opened fid) (told.FileStat f bits links l) fits other = absurd (cc)
-other_laid osts (op.Close opened fid) (told.OpenFile f number l) fits other = absurd (cc)
-other_laid osts (op.Close opened fid) (told.Layout l) fits other = absurd (cc)
-other_laid osts o (told.FileStat f bits links l) fits other = absurd other
-other_laid osts o (told.OpenFile f number l) fits other = absurd other
-other_laid osts o (told.Layout l) fits other = absurd other
-other_laid osts o a fits other = tt
+other_laid : (L : Fid → Raid0 → Type 0) (o : Op) (a : Answer) → answer_fits o a ≡ true → TellsNone o → TellsBy L a
+other_laid L (op.Lookup path) (told.FileStat f bits links l) fits other = absurd (cc)
+other_laid L (op.Lookup path) (told.OpenFile f number l) fits other = absurd (cc)
+other_laid L (op.Lookup path) (told.Layout l) fits other = absurd (cc)
+other_laid L (op.List path) (told.FileStat f bits links l) fits other = absurd (cc)
+other_laid L (op.List path) (told.OpenFile f number l) fits other = absurd (cc)
+other_laid L (op.List path) (told.Layout l) fits other = absurd (cc)
+other_laid L (op.Mkdir path) (told.FileStat f bits links l) fits other = absurd (cc)
+other_laid L (op.Mkdir path) (told.OpenFile f number l) fits other = absurd (cc)
+other_laid L (op.Mkdir path) (told.Layout l) fits other = absurd (cc)
+other_laid L (op.Create path size count) (told.FileStat f bits links l) fits other = absurd (cc)
+other_laid L (op.Create path size count) (told.OpenFile f number l) fits other = absurd (cc)
+other_laid L (op.Create path size count) (told.Layout l) fits other = absurd (cc)
+other_laid L (op.Link old new) (told.FileStat f bits links l) fits other = absurd (cc)
+other_laid L (op.Link old new) (told.OpenFile f number l) fits other = absurd (cc)
+other_laid L (op.Link old new) (told.Layout l) fits other = absurd (cc)
+other_laid L (op.Unlink path) (told.FileStat f bits links l) fits other = absurd (cc)
+other_laid L (op.Unlink path) (told.OpenFile f number l) fits other = absurd (cc)
+other_laid L (op.Unlink path) (told.Layout l) fits other = absurd (cc)
+other_laid L (op.Rmdir path) (told.FileStat f bits links l) fits other = absurd (cc)
+other_laid L (op.Rmdir path) (told.OpenFile f number l) fits other = absurd (cc)
+other_laid L (op.Rmdir path) (told.Layout l) fits other = absurd (cc)
+other_laid L (op.Rename old new) (told.FileStat f bits links l) fits other = absurd (cc)
+other_laid L (op.Rename old new) (told.OpenFile f number l) fits other = absurd (cc)
+other_laid L (op.Rename old new) (told.Layout l) fits other = absurd (cc)
+other_laid L (op.Chmod path mode) (told.FileStat f bits links l) fits other = absurd (cc)
+other_laid L (op.Chmod path mode) (told.OpenFile f number l) fits other = absurd (cc)
+other_laid L (op.Chmod path mode) (told.Layout l) fits other = absurd (cc)
+other_laid L (op.Close opened fid) (told.FileStat f bits links l) fits other = absurd (cc)
+other_laid L (op.Close opened fid) (told.OpenFile f number l) fits other = absurd (cc)
+other_laid L (op.Close opened fid) (told.Layout l) fits other = absurd (cc)
+other_laid L o (told.FileStat f bits links l) fits other = absurd other
+other_laid L o (told.OpenFile f number l) fits other = absurd other
+other_laid L o (told.Layout l) fits other = absurd other
+other_laid L o a fits other = tt
 
--- what the table answers tells the layout that stands
-table_laid : (osts : ℕ) (t : Tree) (number : TxnOf) (who : Who) (o : Op) → Laid osts t → IsOnNames o → IsLaid osts (answer osts t (record { number = number; who = who; op = o }))
-table_laid osts t number who o laid is = by o is
+reached : (t : Tree) (c : Child) (cs : List Child) → IsReached t c → Every (IsNamed t) cs → IsReached t (last_of c cs)
+reached t c [] r h = r
+reached t c (d ∷ ds) r h = reached t d ds (inr h.0) h.1
+
+file_named : (t : Tree) (f : Fid) → IsReached t (File f) → IsNamed t (File f)
+file_named t f (inl e) = absurd (cc)
+file_named t f (inr h) = h
+
+-- what the table answers tells the layout that stands, of a file that a name leads to
+pub table_tells : (L : Fid → Raid0 → Type 0) (osts : ℕ) (t : Tree) (number : TxnOf) (who : Who) (o : Op) → ((f : Fid) → IsNamed t (File f) → L f (layout t f)) → IsOnNames o → TellsBy L (answer osts t (record { number = number; who = who; op = o }))
+table_tells L osts t number who o laid is = by o is
   where
     So : Outcome → Type 0
-    So r = IsLaid osts r.answer
+    So r = TellsBy L r.answer
 
-    stat : (cs : List Child) (c : Child) → So (outcome t (row_stat cs c))
-    stat cs (Dir d) = tt
-    stat cs (File f) = laid f
+    ends : (cs : List Child) → Every (IsNamed t) cs → IsReached t (last_of root cs)
+    ends cs h = reached t root cs (inl refl) h
 
-    lays : (cs : List Child) (c : Child) → So (outcome t (row_layout cs c))
-    lays cs (Dir d) = tt
-    lays cs (File f) = laid f
+    stat : (cs : List Child) (c : Child) → IsReached t c → So (outcome t (row_stat cs c))
+    stat cs (Dir d) r = tt
+    stat cs (File f) r = laid f (file_named t f r)
 
-    opens : (c : Child) → So (outcome t (row_open number who c))
-    opens (Dir d) = tt
-    opens (File f) = laid f
+    lays : (cs : List Child) (c : Child) → IsReached t c → So (outcome t (row_layout cs c))
+    lays cs (Dir d) r = tt
+    lays cs (File f) r = (f, laid f (file_named t f r))
 
-    by : (o : Op) → IsOnNames o → IsLaid osts (answer osts t (record { number = number; who = who; op = o }))
-    by (op.Stat path) is = walk_ends t So (λ e. tt) root path (λ cs. row_stat cs (last_of root cs)) (λ cs _. stat cs (last_of root cs))
-    by (op.Layout path) is = walk_ends t So (λ e. tt) root path (λ cs. row_layout cs (last_of root cs)) (λ cs _. lays cs (last_of root cs))
-    by (op.Open path) is = walk_ends t So (λ e. tt) root path (λ cs. row_open number who (last_of root cs)) (λ cs _. opens (last_of root cs))
-    by o is = other_laid osts o (answer osts t (record { number = number; who = who; op = o })) (answers_fit osts t (record { number = number; who = who; op = o })) is
+    opens : (c : Child) → IsReached t c → So (outcome t (row_open number who c))
+    opens (Dir d) r = tt
+    opens (File f) r = laid f (file_named t f r)
+
+    by : (o : Op) → IsOnNames o → TellsBy L (answer osts t (record { number = number; who = who; op = o }))
+    by (op.Stat path) is = walk_ends t So (λ e. tt) root path (λ cs. row_stat cs (last_of root cs)) (λ cs h. stat cs (last_of root cs) (ends cs h))
+    by (op.Layout path) is = walk_ends t So (λ e. tt) root path (λ cs. row_layout cs (last_of root cs)) (λ cs h. lays cs (last_of root cs) (ends cs h))
+    by (op.Open path) is = walk_ends t So (λ e. tt) root path (λ cs. row_open number who (last_of root cs)) (λ cs h. opens (last_of root cs) (ends cs h))
+    by o is = other_laid L o (answer osts t (record { number = number; who = who; op = o })) (answers_fit osts t (record { number = number; who = who; op = o })) is
 
 -- an answer of an object tells none
-object_laid : (osts : ℕ) (a : Answer) → IsObjectAnswer a → IsLaid osts a
-object_laid osts told.Done is = tt
-object_laid osts (told.Granted cookie extent size) is = tt
-object_laid osts (told.Waiting cookie) is = tt
-object_laid osts (told.Content bytes) is = tt
-object_laid osts (told.Size size) is = tt
-object_laid osts told.Lock is = tt
-object_laid osts told.Uncovered is = tt
-object_laid osts a is = absurd is
+object_laid : (L : Fid → Raid0 → Type 0) (a : Answer) → IsObjectAnswer a → TellsBy L a
+object_laid L told.Done is = tt
+object_laid L (told.Granted cookie extent size) is = tt
+object_laid L (told.Waiting cookie) is = tt
+object_laid L (told.Content bytes) is = tt
+object_laid L (told.Size size) is = tt
+object_laid L told.Lock is = tt
+object_laid L told.Uncovered is = tt
+object_laid L a is = absurd is
 
--- each layout that is told
-pub acted_laid : (head : Head) (past : List Line) (d : Deed) → Grown head past → Acted past d → IsLaid head.osts d.reply.answer
-acted_laid head past d g a = ⊎_elim
-    (λ (b : Acted (only 0 past) d). let k = first_does head past d g b in by k.past k.grown k.at (acted_on_names head past d g b) k.does)
-    (λ (o : OfObject d). object_laid head.osts d.reply.answer o.answer)
+-- each layout that is told, where it held of those that names led to when it was done
+pub acted_so : (head : Head) (past : List Line) (L : Fid → Raid0 → Type 0) (d : Deed) → Grown head past
+    → ((before : List Line) → Grown head before → ((e : Deed) → Acted (only 0 before) e → Acted (only 0 past) e) → (f : Fid) → IsNamed (server_of head.osts (only 0 before)).tree (File f) → L f (layout (server_of head.osts (only 0 before)).tree f))
+    → Acted past d → TellsBy L d.reply.answer
+acted_so head past L d g laid a = ⊎_elim
+    (λ (b : Acted (only 0 past) d). let k = first_does head past d g b in by k.past (laid k.past k.grown k.older) k.at (acted_on_names head past d g b) k.does)
+    (λ (o : OfObject d). object_laid L d.reply.answer o.answer)
     (acted_either head past d g a)
   where
-    by : (before : List Line) → Grown head before → (at : At) → IsOnNames d.op → ActOk head.osts (only 0 before) at d ⊎ TxnOk head.osts (only 0 before) at d → IsLaid head.osts d.reply.answer
-    by before grown at is (inl ok) =
+    by : (before : List Line) → ((f : Fid) → IsNamed (server_of head.osts (only 0 before)).tree (File f) → L f (layout (server_of head.osts (only 0 before)).tree f)) → (at : At) → IsOnNames d.op → ActOk head.osts (only 0 before) at d ⊎ TxnOk head.osts (only 0 before) at d → TellsBy L d.reply.answer
+    by before so at is (inl ok) =
         let v = server_of head.osts (only 0 before) in
-        subst (λ (y : Deed). IsLaid head.osts y.reply.answer) (sym ok.is) (table_laid head.osts v.tree none ok.request.who ok.request.op (laid head before grown) (subst IsOnNames (ap (λ (y : Deed). y.op) ok.is) is))
-    by before grown at is (inr ok) =
+        subst (λ (y : Deed). TellsBy L y.reply.answer) (sym ok.is) (table_tells L head.osts v.tree none ok.request.who ok.request.op so (subst IsOnNames (ap (λ (y : Deed). y.op) ok.is) is))
+    by before so at is (inr ok) =
         let v = server_of head.osts (only 0 before) in
-        subst (λ (y : Deed). IsLaid head.osts y.reply.answer) (sym ok.is) (table_laid head.osts v.tree (next_number v) ok.request.who ok.request.op (laid head before grown) (subst IsOnNames (ap (λ (y : Deed). y.op) ok.is) is))
+        subst (λ (y : Deed). TellsBy L y.reply.answer) (sym ok.is) (table_tells L head.osts v.tree (next_number v) ok.request.who ok.request.op so (subst IsOnNames (ap (λ (y : Deed). y.op) ok.is) is))
+
+pub acted_tells : (head : Head) (past : List Line) (L : Fid → Raid0 → Type 0) (d : Deed) → Grown head past → Given head.osts (only 0 past) L → Acted past d → TellsBy L d.reply.answer
+acted_tells head past L d g given a = acted_so head past L d g (λ before grown older f named. laid_by head before L grown (record { none = given.none; new = λ e b. given.new e (older e b) }) f) a
+
+-- ---- where they lie
+
+abbrev Lies : ℕ → Fid → Raid0 → Type 0
+Lies osts f l = OnTargets osts l.targets
+
+lies : (osts : ℕ) (story : List Line) → Given osts story (Lies osts)
+lies osts story = record { none = λ f. tt; new = λ d a made path size count l creates is. new_on osts d.reply.txn size count l is }
+
+-- each layout that is told is on object storage targets of the run
+abbrev pub IsLaid : ℕ → Answer → Type 0
+IsLaid osts (told.FileStat fid mode links l) = OnTargets osts l.targets
+IsLaid osts (told.OpenFile fid number l) = OnTargets osts l.targets
+IsLaid osts (told.Layout l) = OnTargets osts l.targets
+IsLaid osts _ = Unit {0}
+
+pub acted_laid : (head : Head) (past : List Line) (d : Deed) → Grown head past → Acted past d → IsLaid head.osts d.reply.answer
+acted_laid head past d g a = by d.reply.answer (acted_tells head past (Lies head.osts) d g (lies head.osts (only 0 past)) a)
+  where
+    by : (a : Answer) → TellsBy (Lies head.osts) a → IsLaid head.osts a
+    by (told.FileStat fid mode links l) on = on
+    by (told.OpenFile fid number l) on = on
+    by (told.Layout l) on = on.1
+    by _ on = tt

@@ -3,7 +3,7 @@
 -- conflict, and a close restores all that the lives that stay brought; it shows them one by one.
 use Rattle.std.proofs.Common.{◌≡◌, ℕ, ◌<◌, ◌≤◌, Bool, true, false, List, [], ◌∷◌, ◌++◌, Option, Some, None, ◌⊎◌, inl, inr, ⊎_elim, refl, sym, subst, ap, ◌∙◌, arith}
 use Rattle.std.specs.Prelude.{nat_eq, length, filter, not, nat_le}
-use Rattle.std.proofs.lemmas.Bool.{and_parts, cond_both, cond-false, eqb-true, eqb-false, or_from, or_left, or_right}
+use Rattle.std.proofs.lemmas.Bool.{and_parts, cond_both, cond-false, eqb-true, eqb-false, or_from, or_left, or_right, not-true}
 use Rattle.std.proofs.lemmas.Bool.Decides.{nat_tests}
 use Rattle.lu_base.specs.declared.ids.Node.TheVariants.{Target}
 use Rattle.lu_base.specs.declared.ids.Stamp.{Stamp}
@@ -151,15 +151,11 @@ module _ (head : Head) (past : List Line) (stamp : Stamp) (t : ℕ) (recovers : 
   knows : (who : Who) → HasSlot head.clients past who → is_life who (lives_in gone) ≡ false → (server_of head.osts past).boot ≤ known_of who.client past
   knows who slot stays = let w = word who slot stays in (all.recovers.words recovers who w.0 w.1).2
 
-  -- what it holds it held when it was told that, and all of that was brought
-  all_brought : (c : ℕ) → HasSlot head.clients past (life_of c past) → is_life (life_of c past) (lives_in gone) ≡ false → (h : HeldLock) → In h (held_at c past) → In h.lock (mine (life_of c past))
-  all_brought c slot stays h i =
-      all_there (mine who) (told_of who past) (different_filter (λ (l : Lock). same_life l.ask.who who) (brought_of past) (brought_different (brought_of past) all.recovers.brought_rise)) told enough h.lock
-      (all.recovers.holds recovers c (subst (λ v. (server_of head.osts past).boot ≤ known_of v past) (all.phase.client c) (knows who slot stays)) h i)
+  -- what it held when it was told that was brought
+  told_brought : (who : Who) → HasSlot head.clients past who → is_life who (lives_in gone) ≡ false → (l : Lock) → In l (told_of who past) → In l (mine who)
+  told_brought who slot stays l i =
+      all_there (mine who) (told_of who past) (different_filter (λ (l : Lock). same_life l.ask.who who) (brought_of past) (brought_different (brought_of past) all.recovers.brought_rise)) told enough l i
     where
-      who : Who
-      who = life_of c past
-
       enough : length (told_of who past) ≤ length (mine who)
       enough =
           let w = word who slot stays in
@@ -172,15 +168,27 @@ module _ (head : Head) (past : List Line) (stamp : Stamp) (t : ℕ) (recovers : 
           let f = in_filter (λ (l : Lock). same_life l.ask.who who) l (brought_of past) j in
           subst (λ (w : Who). In l (told_of w past)) (life_is l.ask.who who f.1) (all.recovers.brought recovers l f.0).2.1
 
-  -- so it is restored
+  -- and restored
+  pub told_restored : (who : Who) → HasSlot head.clients past who → is_life who (lives_in gone) ≡ false → (l : Lock) → In l (told_of who past) → In l o.locks
+  told_restored who slot stays l i =
+      let f = in_filter (λ (k : Lock). same_life k.ask.who who) l (brought_of past) (told_brought who slot stays l i) in
+      subst (λ (ls : List Lock). In l ls) (sym locks_are)
+      (in_filtered (λ (k : Lock). not (is_life k.ask.who (lives_in gone))) l (brought_of past) f.0 (ap (λ (w : Who). not (is_life w (lives_in gone))) (life_is l.ask.who who f.1) ∙ ap not stays))
+
+  -- so is what it holds, which it held then
   restores_held : (c : ℕ) → HasSlot head.clients past (life_of c past) → is_life (life_of c past) (lives_in gone) ≡ false → (h : HeldLock) → In h (held_at c past) → In h.lock o.locks
   restores_held c slot stays h i =
-      let f = in_filter (λ (l : Lock). same_life l.ask.who (life_of c past)) h.lock (brought_of past) (all_brought c slot stays h i) in
-      subst (λ (ls : List Lock). In h.lock ls) (sym locks_are)
-      (in_filtered (λ (l : Lock). not (is_life l.ask.who (lives_in gone))) h.lock (brought_of past) f.0 (ap (λ (w : Who). not (is_life w (lives_in gone))) (life_is h.lock.ask.who (life_of c past) f.1) ∙ ap not stays))
+      told_restored (life_of c past) slot stays h.lock (all.recovers.holds recovers c (subst (λ v. (server_of head.osts past).boot ≤ known_of v past) (all.phase.client c) (knows (life_of c past) slot stays)) h i)
+
+  restored_from : (l : Lock) → In l o.locks → In l (brought_of past) × (not (is_life l.ask.who (lives_in gone)) ≡ true)
+  restored_from l i = in_filter (λ (k : Lock). not (is_life k.ask.who (lives_in gone))) l (brought_of past) (subst (λ (ls : List Lock). In l ls) locks_are i)
 
   restored_brought : (l : Lock) → In l o.locks → In l (brought_of past)
-  restored_brought l i = (in_filter (λ (k : Lock). not (is_life k.ask.who (lives_in gone))) l (brought_of past) (subst (λ (ls : List Lock). In l ls) locks_are i)).0
+  restored_brought l i = (restored_from l i).0
+
+  -- what is restored its life, which stays, held when it was told the boot
+  pub restored_told : (l : Lock) → In l o.locks → HasSlot head.clients past l.ask.who × (is_life l.ask.who (lives_in gone) ≡ false) × In l (told_of l.ask.who past)
+  restored_told l i = let f = restored_from l i in let b = all.recovers.brought recovers l f.0 in (b.0, not-true (is_life l.ask.who (lives_in gone)) f.1, b.2.1)
 
   evicts_more : (who : Who) → Evicted past who → Evicted closing who
   evicts_more who x =

@@ -65,7 +65,7 @@ grown_kind mode asked granted waiting k = by (list_any (extents_meet asked) wait
         let first = k.0 in
         (omega (arith, low, high, first), fold_least the_end (map (λ extent. extent.first - 1) (filter (λ extent. nat_lt asked.last extent.first) (granted ++ waiting))), k.2)
 
-ask_kind : (ask : Ask) (granted waiting : List Ask) → HasRange ask.policy → IsKind ask.mode ask.policy → IsKind ask.mode (granted_policy ask granted waiting) × HasRange (granted_policy ask granted waiting)
+pub ask_kind : (ask : Ask) (granted waiting : List Ask) → HasRange ask.policy → IsKind ask.mode ask.policy → IsKind ask.mode (granted_policy ask granted waiting) × HasRange (granted_policy ask granted waiting)
 ask_kind ask granted waiting r k = by ask.policy r k
   where
     by : (p : Policy) → HasRange p → IsKind ask.mode p → IsKind ask.mode (grown_policy p (opposing ask.mode granted) (opposing ask.mode waiting)) × HasRange (grown_policy p (opposing ask.mode granted) (opposing ask.mode waiting))
@@ -77,7 +77,7 @@ kind_ordered mode (Range extent) k = k.0
 kind_ordered mode (Bits bits) k = tt
 
 -- and it conflicts with nothing that is granted, where what was asked for doesn't
-grown_clear : (v : Server) (others : List Lock) (asked : Lock) → IsKind asked.ask.mode asked.ask.policy → conflicts_with_any asked.ask (asks_of (locks_on asked.resource v.granted)) ≡ false
+pub grown_clear : (v : Server) (others : List Lock) (asked : Lock) → IsKind asked.ask.mode asked.ask.policy → conflicts_with_any asked.ask (asks_of (locks_on asked.resource v.granted)) ≡ false
     → (k : Lock) → In k v.granted → asked.resource ≡ k.resource → conflict (grown_by v others asked).ask k.ask ≡ false
 grown_clear v others asked kind free k i on =
     none_of_any (grown_by v others asked).ask (locks_on asked.resource v.granted)
@@ -186,7 +186,7 @@ module _ (head : Head) (past : List Line) (stamp : Stamp) (t : ℕ) (d : Deed) (
 -- ---- who asks for a lock gets it
 
 -- what a request asks for is a range in order
-asked_kind : (head : Head) (past : List Line) (r : RequestOf) (resource : Resource) (mode : Mode) (extent : Extent) → In r (server_of head.osts past).waiting → r.op ≡ op.Enqueue resource mode extent → HoldsAt head past → IsKind mode (Range extent)
+pub asked_kind : (head : Head) (past : List Line) (r : RequestOf) (resource : Resource) (mode : Mode) (extent : Extent) → In r (server_of head.osts past).waiting → r.op ≡ op.Enqueue resource mode extent → HoldsAt head past → IsKind mode (Range extent)
 asked_kind head past r resource mode extent i e all =
     let w = all.done.waits r i in
     let a = w.asks in

@@ -17,7 +17,7 @@ use Rattle.lu_guards.proofs.ClientStoryGuards.{AsksInOrder}
 use Rattle.lu_guards.proofs.Lists.{in_append}
 use Rattle.lu_facts.proofs.Groups.{turn, Flew, Ranges}
 
-in_rest : (q : Queued) (qs : List Queued) → In q (rest qs) → In q qs
+pub in_rest : (q : Queued) (qs : List Queued) → In q (rest qs) → In q qs
 in_rest q [] i = absurd i
 in_rest q (r ∷ qs) i = inr i
 

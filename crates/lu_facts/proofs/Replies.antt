@@ -39,7 +39,7 @@ replied_more : (past : List Line) (l : Line) (c : ℕ) (r : Running) (target : �
 replied_more past l c r target reply same k = record { deed = k.deed; acted = only_more target l past k.deed k.acted; is = k.is; client = k.client ∙ sym same; op = k.op; since = k.since }
 
 -- where a call isn't told its life goes on
-call_lives : (past : List Line) (stamp : Stamp) (node : Node) (e : Entry) → EntryOk past (turn stamp node) node e → (c slot : ℕ) (r : Running) → call_at c slot (line (turn stamp node) e ∷ past) ≡ Some r
+pub call_lives : (past : List Line) (stamp : Stamp) (node : Node) (e : Entry) → EntryOk past (turn stamp node) node e → (c slot : ℕ) (r : Running) → call_at c slot (line (turn stamp node) e ∷ past) ≡ Some r
     → life_at c (line (turn stamp node) e ∷ past) ≡ life_at c past
 call_lives past stamp (Client d) (Life who) ok c slot r k =
     cond_both (nat_eq c d) who (life_at c past) (λ (w : Who). w ≡ life_at c past)

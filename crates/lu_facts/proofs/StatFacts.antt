@@ -19,7 +19,6 @@ use Rattle.lu_msg.specs.declared.answers.Answer.{Answer}
 use Rattle.lu_msg.specs.declared.answers.Answer.TheVariants as told
 use Rattle.lu_msg.specs.declared.calls.Call.TheVariants as call
 use Rattle.lu_msg.specs.declared.messages.Message.TheVariants as message
-use Rattle.lu_msg.specs.declared.operations.Op.{Op}
 use Rattle.lu_msg.specs.declared.operations.Op.TheVariants as op
 use Rattle.lu_held.specs.declared.locks.HeldLock.{HeldLock}
 use Rattle.lu_held.specs.declared.names.LockName.{LockName}
@@ -31,7 +30,7 @@ use Rattle.lu_words.specs.Words.{Entry, Drop, Life, Line, line}
 use Rattle.lu_words.specs.Concerns.{only}
 use Rattle.lu_target_rows.specs.Lives.{is_life}
 use Rattle.lu_client_rows.specs.Recovery.{is_left_at}
-use Rattle.lu_client_rows.specs.Caches.{brought, held_at}
+use Rattle.lu_client_rows.specs.Caches.{held_at}
 use Rattle.lu_client_rows.specs.Facts as facts
 use Rattle.lu_client_rows.specs.Facts.{Fact, without_facts, facts_at}
 use Rattle.lu_client_rows.specs.Known.{Notes, same_part, found_at_path, fact_on, file_known, cookie_of, cookies_of_file, name_of, with_name, names_of}
@@ -39,7 +38,7 @@ use Rattle.lu_covered.specs.Calls.{call_at, life_at}
 use Rattle.lu_covered.specs.Known.{notes_at, known_file}
 use Rattle.lu_covered.specs.TargetStates.{server_of, evicted_of, tree_at, committed_at}
 use Rattle.lu_covered.specs.Heads.{Head}
-use Rattle.lu_guards.proofs.Guards.{In, Took, Begins, IsChange, ReadsOn, ChangesOn, work_in, LeftSize, SizesStand, LockStand, KnowsFile, ToldFile, GoesOn, StatOf, StatStand, GetStand, FlushStand, Replied, LockGranted, MovedStand, StandsOk, EntryOk}
+use Rattle.lu_guards.proofs.Guards.{In, Took, Begins, IsChange, ReadsOn, ChangesOn, work_in, LeftSize, SizesStand, LockStand, KnowsFile, ToldFile, GoesOn, StatOf, StatStand, GetStand, FlushStand, Replied, LockGranted, LockBrought, MovedStand, StandsOk, EntryOk}
 use Rattle.lu_guards.proofs.Grown.{Grown, GrownOf}
 use Rattle.lu_guards.proofs.Lists.{self, in_left, in_right, in_filtered}
 use Rattle.lu_guards.proofs.Only.{grown_of}
@@ -99,21 +98,21 @@ named_in c (k ∷ cookies) (inr i) = name_stays k (name_of c) (names_of cookies)
 -- ---- facts under pinned locks
 
 -- its lock is held, marked or not
-abbrev IsHeld : List Line → ℕ → Fact → Type 0
+abbrev pub IsHeld : List Line → ℕ → Fact → Type 0
 IsHeld past c f = (h : HeldLock) × In h (held_at c past) × (h.target.0 ≡ 0) × (h.lock.cookie ≡ f.cookie)
 
-abbrev Pinned : List Line → ℕ → List LockName → Fact → Type 0
+abbrev pub Pinned : List Line → ℕ → List LockName → Fact → Type 0
 Pinned past c pins f = In f (facts_at c past) × In (name_of f.cookie) pins
 
-abbrev IsKept : List Line → ℕ → List LockName → Fact → Type 0
+abbrev pub IsKept : List Line → ℕ → List LockName → Fact → Type 0
 IsKept past c pins f = Pinned past c pins f × IsHeld past c f
 
 -- a call on objects goes on with that work
-abbrev AtWork : Stage → Work → Type 0
+abbrev pub AtWork : Stage → Work → Type 0
 AtWork stage work = work_in stage ≡ Some work
 
 -- what a stat that goes on for the size of its file knows of it, under the locks that it has pinned
-abbrev KnowsStat : List Line → ℕ → Running → Type 0
+abbrev pub KnowsStat : List Line → ℕ → Running → Type 0
 KnowsStat past c r =
     (path : List (List ℕ)) (work : Work) (mode links : ℕ) → r.call ≡ call.Stat path → AtWork r.stage work → work.kind ≡ Stats mode links → FileBy (Pinned past c r.pins) path work.fid mode links work.layout
 
@@ -122,7 +121,7 @@ KnowsStat past c r =
 usable_kept : (past : List Line) (c : ℕ) (pins : List LockName) (cookies : List Cookie) → ((n : LockName) → In n (names_of cookies) → In n pins) → (f : Fact) → UsedBy (notes_at c past) cookies f → IsKept past c pins f
 usable_kept past c pins cookies pinned f u = ((u.0.0, pinned (name_of f.cookie) (named_in f.cookie cookies u.1)), usable_held f.cookie (held_at c past) u.0.1)
 
-held_kept : (past : List Line) (c slot : ℕ) (r : Running) (pins : List LockName) → PinsFit past → call_at c slot past ≡ Some r → ((n : LockName) → In n r.pins → In n pins) → (f : Fact) → Pinned past c r.pins f
+pub held_kept : (past : List Line) (c slot : ℕ) (r : Running) (pins : List LockName) → PinsFit past → call_at c slot past ≡ Some r → ((n : LockName) → In n r.pins → In n pins) → (f : Fact) → Pinned past c r.pins f
     → IsKept past c pins f
 held_kept past c slot r pins fit is pinned f p =
     let held = pins_held past fit c slot r (name_of f.cookie) is p.1 in
@@ -230,7 +229,7 @@ no_work stage w none at = let e : None ≡ Some w = sym none ∙ at in cc
 -- a message that moves a call leaves its work as it is
 moved_work : (past : List Line) (now : At) (c : ℕ) (q : Running) (stage : Stage) → MovedStand past now c q stage → work_in stage ≡ work_in q.stage
 moved_work past now c q stage (inl h) = ap work_in h.is ∙ sym (⊎_elim
-    (λ (k : (q.stage ≡ Enqueued h.work) × ((a : Replied past now q) × (o : Op) × In h.lock (brought o a.reply))). ap work_in k.0)
+    (λ (k : LockBrought past now q h.work h.lock). ap work_in k.stage)
     (λ (k : LockGranted past now q h.work h.lock). ap work_in k.stage) h.from)
 moved_work past now c q stage (inr (inl h)) = ap work_in h.is ∙ sym (ap work_in h.before)
 moved_work past now c q stage (inr (inr (inl h))) = ap work_in h.is ∙ sym (ap work_in h.before)
@@ -306,7 +305,7 @@ module _ (head : Head) (past : List Line) (now : At) (c slot : ℕ) (r : Running
       by (inr (inr (inr (inr (inr z))))) =
           knows_as past new c ok.running r (ap (λ (v : Running). v.call) (sym ok.is)) (sym (moved_work past now c ok.running ok.stage z.1) ∙ ap work_in stage_is) (sym z.0 ∙ pins_are) (λ f p. stay f p.0) before path work mode links is at kind
 
-stat_knows : (head : Head) (past : List Line) (c slot : ℕ) (r : Running) → Grown head past → PinsFit past → call_at c slot past ≡ Some r → KnowsStat past c r
+pub stat_knows : (head : Head) (past : List Line) (c slot : ℕ) (r : Running) → Grown head past → PinsFit past → call_at c slot past ≡ Some r → KnowsStat past c r
 stat_knows head [] c slot r g fit e = absurd (cc)
 stat_knows head (l ∷ past) c slot r g fit e = by l.at.node l.entry g.0.ok fit e (λ q k. stat_knows head past c slot q g.1 fit.1 k)
   where

@@ -148,7 +148,7 @@ none_said head past who x h from t m w y z n =
 only_was : (t : ℕ) (l : Line) (past : List Line) (from to : Node) (m : Message) → Was (only t (l ∷ past)) from to m → Was (l ∷ only t past) from to m
 only_was t l past from to m = cond_both (concerns t l.at.node l.entry) (l ∷ only t past) (only t past) (λ (p : List Line). Was p from to m → Was (l ∷ only t past) from to m) (λ q w. w) (λ q w. was_more l (only t past) from to m w)
 
-was_only_more : (t : ℕ) (l : Line) (past : List Line) (from to : Node) (m : Message) → Was (only t past) from to m → Was (only t (l ∷ past)) from to m
+pub was_only_more : (t : ℕ) (l : Line) (past : List Line) (from to : Node) (m : Message) → Was (only t past) from to m → Was (only t (l ∷ past)) from to m
 was_only_more t l past from to m w = cond_both (concerns t l.at.node l.entry) (l ∷ only t past) (only t past) (λ (p : List Line). Was p from to m) (λ q. was_more l (only t past) from to m w) (λ q. w)
 
 -- what was done in what concerns a target was done with this line, which concerns it, or before

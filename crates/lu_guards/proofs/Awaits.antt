@@ -270,7 +270,7 @@ waits_more past l t who lock h = by (concerns t l.at.node l.entry)
     by false = h
 
 -- what the newest lines heard stands in the story of that target
-heard_now : (c : ℕ) (past : List Line) (at : At) (t : ℕ) (f : Flight) (r : ReplyTo) → at.node ≡ Client c → HeardNow past at t f r → HeardAs (only t past) (life_at c past) f r
+pub heard_now : (c : ℕ) (past : List Line) (at : At) (t : ℕ) (f : Flight) (r : ReplyTo) → at.node ≡ Client c → HeardNow past at t f r → HeardAs (only t past) (life_at c past) f r
 heard_now c [] at t f r here h = absurd h
 heard_now c (l ∷ past) at t f r here h = by l.entry h (λ k. heard_now c past at t f r here k)
   where

@@ -90,7 +90,7 @@ pub plain_more : (es fs : List Entry) → AllPlain es → AllPlain fs → AllPla
 plain_more [] fs a b = b
 plain_more (e ∷ es) fs a b = (a.0, plain_more es fs a.1 b)
 
-quiet_slot : (slot : ℕ) (e : Entry) → OfSlot slot e → IsQuiet e
+pub quiet_slot : (slot : ℕ) (e : Entry) → OfSlot slot e → IsQuiet e
 quiet_slot slot (Begin s r) o = tt
 quiet_slot slot (Stands s r) o = tt
 quiet_slot slot (Told s at a w) o = tt
@@ -363,7 +363,7 @@ module _ (slot : ℕ) where
 
 -- ---- the rest of a turn changes no call
 
-marks_plain : (hs : List HeldLock) → AllPlain (rows.marks_of hs)
+pub marks_plain : (hs : List HeldLock) → AllPlain (rows.marks_of hs)
 marks_plain [] = tt
 marks_plain (h ∷ hs) = (tt, marks_plain hs)
 
@@ -403,7 +403,7 @@ to_plain limits who t i = by (is_serving i.standing)
     by true = sends_plain limits who i.boot t i.last i.flights i.queue
     by false = tt
 
-all_plain : (limits : Limits) (who : Who) (t : ℕ) (imports : List Import) → AllPlain (sends_all limits who t imports)
+pub all_plain : (limits : Limits) (who : Who) (t : ℕ) (imports : List Import) → AllPlain (sends_all limits who t imports)
 all_plain limits who t [] = tt
 all_plain limits who t (i ∷ imports) = plain_more (sends_to limits who t i) _ (to_plain limits who t i) (all_plain limits who (t + 1) imports)
 

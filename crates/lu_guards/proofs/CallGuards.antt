@@ -15,6 +15,8 @@ use Rattle.lu_base.specs.declared.locks.Mode.TheVariants.{PR, PW}
 use Rattle.lu_base.specs.declared.locks.Policy.TheVariants.{Range}
 use Rattle.lu_base.specs.declared.locks.Resource.{Resource}
 use Rattle.lu_layout.specs.Raid0.{Raid0}
+use Rattle.lu_lock.specs.Modes.{serves}
+use Rattle.lu_lock.specs.Overlap.{covers}
 use Rattle.lu_msg.specs.declared.answers.Answer.TheVariants as answer
 use Rattle.lu_msg.specs.declared.calls.Call.{Call}
 use Rattle.lu_msg.specs.declared.calls.Call.TheVariants as call
@@ -238,12 +240,15 @@ pub record CallAsksOk (past : List Line) (c t : ℕ) (q : Queued) : Type 0 where
   pub call : call_at c slot past ≡ Some running
   pub asks : NamesAskOk past c t running q.op ⊎ SizeAskOk t running q.op ⊎ LockAskOk t running q.op ⊎ GetAskOk past c t running q.op
 
--- the newest line is that of the client, and takes the change to write it back
-abbrev pub TakesBack : List Line → ℕ → Resource → Flush → Type 0
-TakesBack [] c resource change = ⊥
-TakesBack (l ∷ past) c resource change = (l.at.node ≡ Client c) × (l.entry ≡ WritesBack resource change)
+-- the newest line is that of the client, and takes the change to write it back: it was the next one under that lock
+abbrev pub TakesBack : List Line → ℕ → Lock → Flush → Type 0
+TakesBack [] c lock change = ⊥
+TakesBack (l ∷ past) c lock change =
+    (l.at.node ≡ Client c)
+    × (l.entry ≡ WritesBack lock.resource change)
+    × (flush_under (patch_at lock.resource (patches_at c past)) lock.ask.mode lock.ask.policy ≡ Some change)
 
--- a change that was just taken is written back, for no call, under a held lock to write under of that target
+-- a change that was just taken is written back, for no call, under the held lock to write under that it was taken under, of that target
 pub record BackAskOk (past : List Line) (c t : ℕ) (q : Queued) : Type 0 where
   pub serves : q.slot ≡ None
   pub holding : HeldLock
@@ -252,11 +257,47 @@ pub record BackAskOk (past : List Line) (c t : ℕ) (q : Queued) : Type 0 where
   pub object : 0 < t
   pub mode : holding.lock.ask.mode ≡ PW
   pub change : Flush
-  pub takes : TakesBack past c holding.lock.resource change
+  pub takes : TakesBack past c holding.lock change
   pub of_op : q.op ≡ operation holding.lock.resource holding.lock.cookie change
 
 abbrev pub QueuesOk : List Line → (c t : ℕ) → Queued → Type 0
 QueuesOk past c t q = CallAsksOk past c t q ⊎ BackAskOk past c t q
+
+-- ---- the locks in use
+
+-- a held lock is on that object
+pub record Locked (c : ℕ) (past : List Line) (wanted : Use) : Type 0 where
+  pub holding : HeldLock
+  pub held : In holding (held_at c past)
+  pub of_target : holding.target.0 ≡ wanted.target.0
+  pub of_object : holding.lock.resource ≡ wanted.resource
+  pub ranged : HasRange holding.lock.ask.policy
+
+-- the locks that a call on bytes has in use
+abbrev pub used_of : Option Work → List Using
+used_of None = []
+used_of (Some work) = work.used
+
+abbrev pub used_in : Stage → List Using
+used_in stage = used_of (work_in stage)
+
+-- the lock serves for what is wanted: its mode does, and it covers the range
+abbrev pub LockDoes : Using → Type 0
+LockDoes u = (serves u.lock.ask.mode u.want.mode ≡ true) × (covers u.lock.ask.policy u.want.policy ≡ true)
+
+-- or it is the lock that came, for the first of the objects that are left
+abbrev pub CameFor : Running → Using → Type 0
+CameFor running u = (work : Work) × (left : List Use) × (running.stage ≡ Came work u.lock) × (work.left ≡ u.want ∷ left)
+
+-- it is held now, and serves or came for what is wanted
+pub record HeldFor (c : ℕ) (past : List Line) (running : Running) (u : Using) : Type 0 where
+  pub locked : Locked c past u.want
+  pub is : locked.holding.lock ≡ u.lock
+  pub does : LockDoes u ⊎ CameFor running u
+
+-- each lock in use was in use before, or is held now
+abbrev pub UsesHeld : ℕ → List Line → Running → List Using → Type 0
+UsesHeld c past running us = (u : Using) → In u us → In u (used_in running.stage) ⊎ HeldFor c past running u
 
 -- ---- changes of objects
 
@@ -272,7 +313,16 @@ piece_on l (Writes offset bytes) stripe = Some (Put (below_on l stripe offset) (
 piece_on l (Cuts size) stripe = Some (Cut (below_on l stripe size))
 piece_on l _ stripe = None
 
--- a call that changes bytes, and has all its locks in use, changes one object after another
+-- the newest line is no change of an object, and shows no byte of one
+abbrev pub NewestChanges : List Line → Type 0
+NewestChanges [] = ⊥
+NewestChanges (l ∷ past) = elim l.entry [ Changes resource change ↦ Unit {0} | _ ↦ ⊥ ]
+
+abbrev pub NotChanging : List Line → Type 0
+NotChanging [] = Unit {0}
+NotChanging (l ∷ past) = elim l.entry [ Changes resource change ↦ ⊥ | Shows resource cookie last ↦ NewestChanges past → ⊥ | _ ↦ Unit {0} ]
+
+-- a call that changes bytes, and has all its locks in use, changes one object after another; no other call is at its changes
 pub record ChangesOk (past : List Line) (at : At) (c : ℕ) (resource : Resource) (change : Flush) : Type 0 where
   pub slot : ℕ
   pub running : Running
@@ -289,6 +339,8 @@ pub record ChangesOk (past : List Line) (at : At) (c : ℕ) (resource : Resource
   pub is : piece_on work.layout work.kind next.want.resource.stripe ≡ Some change
   pub before : List Line
   pub made : past ≡ with_turn at (pieces_of work.layout work.kind done) before
+  pub fresh : NotChanging before
+  pub uses : UsesHeld c past running work.used
 
 -- a change is taken to be written back under a held lock to write under: it is the next one there, and none is under way
 pub record WritesBackOk (past : List Line) (c : ℕ) (resource : Resource) (change : Flush) : Type 0 where
@@ -304,15 +356,27 @@ abbrev pub WroteNow : List Line → At → Resource → ℕ → List ℕ → Typ
 WroteNow [] at resource first bytes = ⊥
 WroteNow (l ∷ past) at resource first bytes = (l.at ≡ at) × (l.entry ≡ Changes resource (Put first bytes))
 
--- the last of the bytes that were just written is shown; or what a page brought is
-pub record ShowsWritten (past : List Line) (at : At) (resource : Resource) (last : ℕ) : Type 0 where
+-- the last of the bytes that a call just wrote is shown under the lock that it has in use there; or what a page brought is
+pub record ShowsWritten (past : List Line) (at : At) (c : ℕ) (resource : Resource) (cookie : Cookie) (last : ℕ) : Type 0 where
+  pub slot : ℕ
+  pub running : Running
+  pub call : call_at c slot past ≡ Some running
+  pub work : Work
+  pub does : ChangesOn running work
+  pub wants : wanted_by work ≡ map (λ (u : Using). u.want) work.used
+  pub uses : UsesHeld c past running work.used
+  pub under : Using
+  pub among : In under work.used
+  pub of_cookie : under.lock.cookie ≡ cookie
+  pub of_object : under.want.resource ≡ resource
   pub first : ℕ
   pub bytes : List ℕ
+  pub piece : piece_on work.layout work.kind resource.stripe ≡ Some (Put first bytes)
   pub wrote : WroteNow past at resource first bytes
   pub is : last ≡ first + length bytes - 1
 
 abbrev pub ShowsOk : List Line → At → ℕ → Resource → Cookie → ℕ → Type 0
-ShowsOk past at c resource cookie last = ShowsWritten past at resource last ⊎ MarkNext past c (Shows resource cookie last)
+ShowsOk past at c resource cookie last = ShowsWritten past at c resource cookie last ⊎ MarkNext past c (Shows resource cookie last)
 
 -- ---- a glimpse goes on
 
@@ -360,11 +424,20 @@ pub record LeftSize (past : List Line) (at : At) (running : Running) (sizes : Li
   pub held : List ℕ
   pub more : sizes ≡ before ++ held
 
--- the lock came that it asked for: the size under it, and then of those that it holds a lock on
+-- the lock came that it asked for, and is held: the size under it, and then of those that it holds a lock on
 pub record CameSize (past : List Line) (at : At) (running : Running) (sizes : List ℕ) : Type 0 where
   pub work : Work
   pub lock : Lock
   pub stage : running.stage ≡ Came work lock
+  pub wanted : Use
+  pub left : List Use
+  pub first : work.left ≡ wanted ∷ left
+  pub holding : HeldLock
+  pub holds : In holding (held_by at.node past)
+  pub of_target : holding.target.0 ≡ wanted.target.0
+  pub is : holding.lock ≡ lock
+  pub of_object : lock.resource ≡ wanted.resource
+  pub ranged : HasRange lock.ask.policy
   pub before : List ℕ
   pub kind : work.kind ≡ Glimpses before
   pub held : List ℕ
@@ -510,12 +583,27 @@ pub record LockGranted (past : List Line) (at : At) (running : Running) (work : 
   pub took : Took past at (Target target.0) (message.Grant notice)
   pub is : lock ≡ granted_as waiting notice.extent
 
+-- the reply just heard brings the lock that was asked for on the first of the objects that are left
+pub record LockBrought (past : List Line) (at : At) (running : Running) (work : Work) (lock : Lock) : Type 0 where
+  pub stage : running.stage ≡ Enqueued work
+  pub answers : Replied past at running
+  pub wanted : Use
+  pub left : List Use
+  pub first : work.left ≡ wanted ∷ left
+  pub of_target : answers.target ≡ wanted.target.0
+  pub flight : Flight
+  pub now : HeardNow past at answers.target flight answers.reply
+  pub extent : Extent
+  pub policy : wanted.policy ≡ Range extent
+  pub of_op : flight.op ≡ op.Enqueue wanted.resource wanted.mode extent
+  pub brings : In lock (brought flight.op answers.reply)
+
 -- the lock that it asked for came, with the reply or once it had waited
 pub record CameStand (past : List Line) (at : At) (running : Running) (stage : Stage) : Type 0 where
   pub work : Work
   pub lock : Lock
   pub is : stage ≡ Came work lock
-  pub from : ((running.stage ≡ Enqueued work) × ((a : Replied past at running) × (o : Op) × In lock (brought o a.reply))) ⊎ LockGranted past at running work lock
+  pub from : LockBrought past at running work lock ⊎ LockGranted past at running work lock
 
 -- it is told to wait for it: in the newest line it heard so
 pub record WaitStand (past : List Line) (at : At) (c : ℕ) (running : Running) (stage : Stage) : Type 0 where
@@ -584,17 +672,9 @@ pub record FlushStand (past : List Line) (c : ℕ) (running : Running) (stage : 
   pub is : stage ≡ Flushing stripe
   pub dirty : HasChange (patch_at (object file.fid stripe) (patches_at c past))
 
--- ---- of each object in use the client held a lock
+-- ---- of each object in use the client held a lock since its call began
 
--- a held lock is on that object
-pub record Locked (c : ℕ) (past : List Line) (wanted : Use) : Type 0 where
-  pub holding : HeldLock
-  pub held : In holding (held_at c past)
-  pub of_target : holding.target.0 ≡ wanted.target.0
-  pub of_object : holding.lock.resource ≡ wanted.resource
-  pub ranged : HasRange holding.lock.ask.policy
-
--- the same, but not where the call in the slot began
+-- what follows, but not where the call in the slot began
 abbrev pub Unless : Bool → Type 0 → Type 0
 Unless true A = ⊥
 Unless false A = A
@@ -606,21 +686,9 @@ HadLock c slot wanted (l ∷ past) =
     Locked c (l ∷ past) wanted
     ⊎ elim l.entry [ Begin s running ↦ Unless (is_client c l.at.node && s == slot) (HadLock c slot wanted past) | _ ↦ HadLock c slot wanted past ]
 
--- the locks that a call on bytes has in use
-abbrev pub used_of : Option Work → List Using
-used_of None = []
-used_of (Some work) = work.used
-
-abbrev pub used_in : Stage → List Using
-used_in stage = used_of (work_in stage)
-
 -- it had a lock on each of those objects
 abbrev pub HadUsed : (c slot : ℕ) → List Line → Stage → Type 0
 HadUsed c slot past stage = (u : Using) → In u (used_in stage) → HadLock c slot u.want past
-
--- each lock in use was in use before, or is held now
-abbrev pub UsesHeld : ℕ → List Line → Running → List Using → Type 0
-UsesHeld c past running us = (u : Using) → In u us → In u (used_in running.stage) ⊎ ((k : Locked c past u.want) × (k.holding.lock ≡ u.lock))
 
 -- ---- a call on objects goes on: it waits for no reply
 
@@ -640,3 +708,4 @@ pub record StandsOk (past : List Line) (at : At) (c slot : ℕ) (r : Running) : 
       ⊎ ((pins ≡ running.pins) × MovedStand past at c running stage)
   pub had : HadUsed c slot past stage
   pub uses : UsesHeld c past running (used_in stage)
+  pub mine : (u : Using) → In u (used_in stage) → In (name_under u.want u.lock) pins

@@ -180,13 +180,13 @@ module _ (head : table.Head) (c : ℕ) (stamp : Stamp) where
   -- it stands further on, and asks
   pub went_asks : (slot : ℕ) (r now : Running) (t : ℕ) (o : Op) (before p : List Line) → Ready slot r before p → now.call ≡ r.call → now.file ≡ r.file → Owes p at (Stands slot now) → StandsOk p at c slot now
       → IsCovered (Stands slot now)
-      → (Settled (line at (Stands slot now) ∷ p))
+      → Owes (line at (Stands slot now) ∷ p) at (Queues t (queued_for slot o))
       → (let p1 = line at (Stands slot now) ∷ p in NamesAskOk p1 c t now o ⊎ SizeAskOk t now o ⊎ LockAskOk t now o ⊎ GetAskOk p1 c t now o)
       → AsksInOrder o → ((who : Who) (patches : List (Resource × Patch)) → Resting who patches (record now { asking = Asked }))
       → Went slot r before (with_turn at (Stands slot now ∷ Queues t (queued_for slot o) ∷ []) p)
-  went_asks slot r now t o before p y call file owes ok covered settled asks order rests =
+  went_asks slot r now t o before p y call file owes ok covered owed asks order rests =
       record {
-        good = adds head c stamp p1 e stood (owes_nothing p1 at e settled) (inl (record { slot = slot; serves = refl; running = now; call = stands; asks = asks })) (λ t q. order) tt refl;
+        good = adds head c stamp p1 e stood owed (inl (record { slot = slot; serves = refl; running = now; call = stands; asks = asks })) (λ t q. order) tt refl;
         settled = tt;
         handles = y.handles;
         kept = kept_more slot before p1 p2 (kept_more slot before p p1 y.kept (kept_stands slot now p)) (kept_asks slot t o p1);

@@ -11,6 +11,8 @@ use Rattle.lu_held.specs.declared.names.LockName.{LockName}
 use Rattle.lu_words.specs.Carried.{Asking, Unasked, Asked, Answered, Stage, Bad, Looks, Enqueued, Waits, Came as CameOf, Forgotten, Gets, Flushing, Sizes, Running}
 use Rattle.lu_words.specs.Words.{Entry, Tick, Begin, Stands, Queues, Heard, Told, Line, line, is_client}
 use Rattle.lu_words.specs.Fields.{on}
+use Rattle.lu_words.specs.declared.uses.Using.{Using}
+use Rattle.lu_client_rows.specs.Advances.{name_under}
 use Rattle.lu_covered.specs.Heads.{Head}
 use Rattle.lu_covered.specs.Calls.{begun, asks, asks_for, reads_call, call_after, call_at, life_at}
 use Rattle.lu_trace.specs.WellFormed.{IsCall}
@@ -312,6 +314,25 @@ had_all head (l ∷ past) g c slot r k u i =
     more : (q : Running) → call_at c slot past ≡ Some q → HadLock c slot u.want past → HadLock c slot u.want (l ∷ past)
     more q w h = had_more past l.at l.entry c slot u.want q g.0.ok w h
 
+    begins : Begins c past r → In u (used_in r.stage) → ⊥
+    begins (inl b) j = subst (λ (s : Stage). In u (used_in s)) b.1 j
+    begins (inr b) j = subst (λ (s : Stage). In u (used_in s)) b.1 j
+
+-- and has each of them pinned
+pub mine_all : (head : Head) (past : List Line) → Grown head past → (c slot : ℕ) (r : Running) → call_at c slot past ≡ Some r → (u : Using) → In u (used_in r.stage) → In (name_under u.want u.lock) r.pins
+mine_all head [] g c slot r k u i = absurd (cc)
+mine_all head (l ∷ past) g c slot r k u i =
+    ⊎_elim
+    (λ (p : call_at c slot past ≡ Some r). mine_all head past g.1 c slot r p u i)
+    (λ (p : Began past l.at l.entry c slot r ⊎ (Touched past l.at.node l.entry c slot r ⊎ Stood past l.at c slot r)). ⊎_elim
+    (λ (q : Began past l.at l.entry c slot r). absurd (begins q.begins i))
+    (⊎_elim
+    (λ (q : Touched past l.at.node l.entry c slot r). subst (In (name_under u.want u.lock)) q.pins (mine_all head past g.1 c slot q.before q.call u (subst (λ (s : Stage). In u (used_in s)) (sym q.stage) i)))
+    (λ (q : Stood past l.at c slot r).
+    subst (In (name_under u.want u.lock)) (ap (λ (v : Running). v.pins) (sym q.stands.is)) (q.stands.mine u (subst (λ (s : Stage). In u (used_in s)) (ap (λ (v : Running). v.stage) q.stands.is) i))))
+    p)
+    (call_cases past l.at.stamp l.at.node l.entry g.0.ok c slot r k)
+  where
     begins : Begins c past r → In u (used_in r.stage) → ⊥
     begins (inl b) j = subst (λ (s : Stage). In u (used_in s)) b.1 j
     begins (inr b) j = subst (λ (s : Stage). In u (used_in s)) b.1 j

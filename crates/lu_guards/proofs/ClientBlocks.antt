@@ -43,7 +43,7 @@ use Rattle.lu_guards.proofs.ClientRests.{mark_good, import_there}
 use Rattle.lu_guards.proofs.Awaits.{awaits_quiet}
 use Rattle.lu_guards.proofs.AwaitsTurns.{call_there, waiter_is, none_waits}
 use Rattle.lu_guards.proofs.TurnStarts.{Starts, took_rested}
-use Rattle.lu_guards.proofs.StageMoves.{works_at, waits_only, stand_rested, rested_calm, had_before, uses_before, wants_on}
+use Rattle.lu_guards.proofs.StageMoves.{works_at, waits_only, stand_rested, rested_calm, had_before, uses_before, mine_before, wants_on}
 
 -- a call that waits is marked, and waits for the same
 marked_of : (who : Who) (r : Running) (w : Work) (target : TargetId) (l : Lock) (marked : Bool) → r.stage ≡ Waits w target l marked → Waiting who r → Waiting who (at_stage r (Waits w target l true))
@@ -83,6 +83,7 @@ module _ (head : table.Head) (c : ℕ) (stamp : Stamp) where
         how = inr (inr (inr (inr (inr (refl, inr (inr (inl (record { work = w; target = target; lock = l; marked = marked; before = stage; took = (who, boot, took); is = refl }))))))));
         had = had_before head c stamp p slot r (Waits w target l true) h.good call same;
         uses = uses_before head c stamp p r (Waits w target l true) same;
+        mine = mine_before head c stamp p slot r (Waits w target l true) h.good call same;
       }) (subst IsOnObjects stage (wants_on head c stamp p slot r h.good call)) tt (inl (inr (inr (inr (inl (marked_of (life_at c p) r w target l marked stage x))))))
     where
       x : Waiting (life_at c p) r

@@ -37,7 +37,7 @@ use Rattle.lu_guards.proofs.Guards.{HasRange, In, IsFlush, IsFlushing, HasChange
 use Rattle.lu_guards.proofs.StoryGuards.{EntryOf}
 use Rattle.lu_guards.proofs.ClientStoryGuards.{AsksInOrder}
 use Rattle.lu_guards.proofs.Lists.{self, in_append, turn}
-use Rattle.lu_guards.proofs.Turns.{Settled, owes_nothing}
+use Rattle.lu_guards.proofs.Turns.{StoodQuiet, Settled, owes_nothing}
 use Rattle.lu_guards.proofs.ClientHandles.{Tied, IsNoOpen, other_tied}
 use Rattle.lu_guards.proofs.ClientLines.{ends}
 use Rattle.lu_guards.proofs.ClientLocks.{in_ordered}
@@ -152,16 +152,20 @@ dirty_lines at slot r f i more s h = by (in_flight patch) (is_clean patch) h
     by false true (inr e) = absurd (cc)
 
 -- what was owed is owed still
-pub stood_by : (stage : Stage) (X : Type 0) → X → OwesStood stage X
-stood_by (Flushing i) X x = x
-stood_by stage X x = tt
+pub stood_by : (stage : Stage) (X S : Type 0) (slot : ℕ) (e : Entry) → IsFlushing stage → X → OwesStood S slot stage X e
+stood_by (Flushing i) X S slot e k x = x
+stood_by stage X S slot e k x = absurd k
+
+stood_quiet : (stage : Stage) (X : Type 0) → IsFlushing stage → X → StoodQuiet stage X
+stood_quiet (Flushing i) X k x = x
+stood_quiet stage X k x = absurd k
 
 module _ (head : table.Head) (c : ℕ) (stamp : Stamp) where
   abbrev at : At
   at = turn stamp (Client c)
 
   pub flush_settled : (slot : ℕ) (p : List Line) (e : Entry) → FlushLine slot e → Settled p → Settled (line at e ∷ p)
-  flush_settled slot p (Stands s r) k settled = stood_by r.stage (Settled p) settled
+  flush_settled slot p (Stands s r) k settled = stood_quiet r.stage (Settled p) k.1 settled
   flush_settled slot p (WritesBack resource change) k settled = settled
   flush_settled slot p (Queues t q) k settled = subst (λ (o : Option ℕ). Settled (line at (Queues t (record { slot = o; op = q.op })) ∷ p)) (sym k) settled
   flush_settled slot p e k settled = absurd k
@@ -203,6 +207,7 @@ module _ (head : table.Head) (c : ℕ) (stamp : Stamp) where
                   how = inr (inr (inr (inr (inl (record { handle = handle; flushes = flushing; good = good; file = f; of_file = of_file; same = refl; stripe = i; is = refl; dirty = dirty })))));
                   had = λ u j. absurd j;
                   uses = λ u j. absurd j;
+                  mine = λ u j. absurd j;
                 }) (λ t q. tt) tt refl;
             kept = kept_stands head c stamp slot (at_stage r (Flushing i)) p;
             call = call_line head c stamp slot p (Stands slot (at_stage r (Flushing i))) ∙ rw (self slot) refl;
@@ -256,7 +261,7 @@ module _ (head : table.Head) (c : ℕ) (stamp : Stamp) where
                 object = held_range head c stamp p (fine p holds) h held u.ranged;
                 mode = u.mode;
                 change = u.change;
-                takes = (refl, refl);
+                takes = (refl, refl, ap (λ (x : Resource). flush_under (patch_at x (patches_at c p)) h.lock.ask.mode h.lock.ask.policy) u.of_object ∙ u.next);
                 of_op = refl;
               })) (λ t q. back_order h.lock.resource h.lock.cookie u.change) tt refl
 

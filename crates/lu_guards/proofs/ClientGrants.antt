@@ -38,7 +38,7 @@ use Rattle.lu_guards.proofs.Lists.{self, life_is, turn}
 use Rattle.lu_guards.proofs.Only.{sent_was, was_only}
 use Rattle.lu_guards.proofs.Parts.{known_is, life_is_of}
 use Rattle.lu_guards.proofs.Turns.{owes_nothing}
-use Rattle.lu_guards.proofs.Calls.{had_all}
+use Rattle.lu_guards.proofs.Calls.{had_all, mine_all}
 use Rattle.lu_guards.proofs.CallStands.{Waiting, Idle, idle_still, still_calm}
 use Rattle.lu_guards.proofs.ClientLocks.{with_self}
 use Rattle.lu_guards.proofs.ClientGood.{Good, Rested, the_head, adds, at_one, held_line}
@@ -188,6 +188,7 @@ module _ (head : table.Head) (c : ℕ) (stamp : Stamp) where
           )))));
           had = subst (λ (x : Stage). HadUsed c slot p3 x) w.stage (had_all (the_head head c stamp) p3 settled_good.grown c slot r call);
           uses = λ u i. inl (subst (λ (x : Stage). In u (used_in x)) (sym w.stage) i);
+          mine = λ u i. mine_all (the_head head c stamp) p3 settled_good.grown c slot r call u (subst (λ (x : Stage). In u (used_in x)) (sym w.stage) i);
         }
 
     objects : IsOnObjects r.stage

@@ -3,6 +3,7 @@
 use Rattle.std.proofs.Common.{◌≡◌, ℕ, ◌<◌, Bool, true, false, List, [], ◌∷◌, ◌++◌, ◌⊎◌, inl, inr, refl, sym, subst, ap, ◌∙◌, arith}
 use Rattle.std.specs.Prelude.{nat_eq, if◌then◌else◌}
 use Rattle.std.proofs.lemmas.Bool.{eqb-true}
+use Rattle.std.proofs.lemmas.List.{append_assoc}
 use Rattle.std.proofs.lemmas.Bool.Decides.{nat_tests}
 use Rattle.lu_base.specs.declared.ids.At.{At}
 use Rattle.lu_base.specs.declared.ids.Node.TheVariants.{Client, Target}
@@ -26,7 +27,7 @@ use Rattle.lu_client_rows.specs.Messages.{holds, learns, size_with}
 use Rattle.lu_covered.specs.Calls.{asks_for, call_at, life_at}
 use Rattle.lu_covered.specs.Imports.{flights_at}
 use Rattle.lu_table.specs.Heads as table
-use Rattle.lu_guards.proofs.HeedMarks.{heeds_marks}
+use Rattle.lu_guards.proofs.HeedMarks.{heeds_marks, marks_left, owes, owed_of}
 use Rattle.lu_guards.proofs.Guards.{In, Was, HeardNow, JustHeard, Learned, marks_of}
 use Rattle.lu_guards.proofs.StoryGuards as story_guards
 use Rattle.lu_guards.proofs.Lists.{self, turn, turn_more}
@@ -76,6 +77,7 @@ module _ (head : table.Head) (c : ℕ) (stamp : Stamp) where
     held : (l : Lock) → In l left → In (held_as t l false) (held_at c p)
     differ : Differ left
     among : (l : Lock) → In l left → In l (brought f.op r)
+    owing : (more : List Entry) × (owed_of c p ≡ holds t (size_with r.answer) r.seen left ++ more)
 
   pub held_so : (t : ℕ) (r : ReplyTo) (l : Lock) (p : List Line) → held_at c (line at (Hold t l false (size_with r.answer) r.seen) ∷ p) ≡ with_held (held_as t l false) (held_at c p)
   held_so t r l p = held_line head c stamp p (Hold t l false (size_with r.answer) r.seen)
@@ -87,7 +89,7 @@ module _ (head : table.Head) (c : ℕ) (stamp : Stamp) where
         since = record {
           good =
               adds head c stamp p e s.since.good (owes_nothing p at e s.since.settled)
-              (inl (record { flight = f; reply = r; heard = s.now; among = s.among l (inl refl); unmarked = refl; sized = refl; saw = refl }))
+              (inl (record { flight = f; reply = r; heard = s.now; among = s.among l (inl refl); unmarked = refl; sized = refl; saw = refl; next = (holds t (size_with r.answer) r.seen left ++ s.owing.0, s.owing.1) }))
               (at_one head c stamp t (λ (u : ℕ). ((false ≡ false) × story_guards.HeldOk (only u p) c t l r.seen) ⊎ story_guards.GivenOf (only u p) c t l r.seen) (inl (
                 refl,
                 record {
@@ -115,6 +117,7 @@ module _ (head : table.Head) (c : ℕ) (stamp : Stamp) where
         held = λ m i. subst (λ (hs : List HeldLock). In (held_as t m false) hs) (sym so) (with_other (held_as t l false) (held_as t m false) (held_at c p) (other_lock t l m (s.differ.0 m i)) (s.held m (inr i)));
         differ = s.differ.1;
         among = λ m i. s.among m (inr i);
+        owing = (s.owing.0, ap (λ (b : Bool). if b then marks_left (owed_of c p) else owed_of c p) (self c) ∙ ap marks_left s.owing.1);
       }
     where
       e : Entry
@@ -265,6 +268,11 @@ module _ (head : table.Head) (c : ℕ) (stamp : Stamp) where
           held = λ l i. subst (λ (hs : List HeldLock). In (held_as t l false) hs) (sym held_now) (brought_in t l locks (held_at c p) differ i);
           differ = differ;
           among = λ l i. i;
+          owing = (
+            learns t f.op r.answer r.locks ++ heeds_marks t f.op r.answer (held_at c p),
+            ap (λ (b : Bool). if b then owes t f r (held_at c p) else owed_of c p) (self c)
+                ∙ append_assoc (holds t (size_with r.answer) r.seen locks) (learns t f.op r.answer r.locks) (heeds_marks t f.op r.answer (held_at c p)),
+          );
         }
 
     pub is_heard : IsHeard t f r p p4

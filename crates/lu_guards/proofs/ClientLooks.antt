@@ -30,7 +30,7 @@ use Rattle.lu_client_rows.specs.States.{Client as ClientState, store_turn, after
 use Rattle.lu_client_rows.specs.Patches.{to_end, cut_extent}
 use Rattle.lu_client_rows.specs.Stripes.{below_on, stripes}
 use Rattle.lu_client_rows.specs.Wants.{want, wants_run, wants_rest, wants_cut, wants_of}
-use Rattle.lu_guards.proofs.Guards.{HasRange, In, InOrder, LacksOf}
+use Rattle.lu_guards.proofs.Guards.{HasRange, In, InOrder, LacksOf, LockDoes}
 use Rattle.lu_guards.proofs.Lists.{in_append, in_right, in_filter}
 use Rattle.lu_guards.proofs.ClientLocks.{in_map, in_ordered}
 
@@ -206,6 +206,11 @@ serves_so wanted h range e =
       unmarked = not-true h.marked b.1;
       ranged = covers_range h.lock.ask.policy wanted.policy range a.1;
     }
+
+pub does_so : (wanted : Use) (h : HeldLock) → serves_use wanted h ≡ true → LockDoes (record { want = wanted; lock = h.lock })
+does_so wanted h e =
+    let a = and_parts (is_for wanted.target wanted.resource h && serves h.lock.ask.mode wanted.mode) (covers h.lock.ask.policy wanted.policy) e in
+    ((and_parts (is_for wanted.target wanted.resource h) (serves h.lock.ask.mode wanted.mode) a.0).1, a.1)
 
 -- ---- what is left of the store by entries is left of the client
 

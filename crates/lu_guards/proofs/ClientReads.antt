@@ -104,6 +104,7 @@ module _ (head : table.Head) (c : ℕ) (stamp : Stamp) where
           how = inr (inr (inr (inl (record { work = w; is = refl; does = on; wants = wants; mine = g.mine; page = page; lacks = lacks }))));
           had = g.had;
           uses = g.uses;
+          mine = g.mine;
         }) covered.0 tt
         (inr (inr (inr (record {
           work = w;

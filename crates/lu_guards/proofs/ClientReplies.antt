@@ -30,7 +30,8 @@ use Rattle.lu_words.specs.declared.changes.Flush.TheVariants.{Cut, Put}
 use Rattle.lu_words.specs.declared.changes.Flush.{Flush}
 use Rattle.lu_words.specs.Concerns.{only}
 use Rattle.lu_words.specs.Sent.{Sent}
-use Rattle.lu_client_rows.specs.Advances.{at_stage, enqueue_of}
+use Rattle.lu_words.specs.declared.uses.Using.{Using}
+use Rattle.lu_client_rows.specs.Advances.{at_stage, name_under, enqueue_of}
 use Rattle.lu_client_rows.specs.Caches.{held_as, held_at, granted_lock, patches_at}
 use Rattle.lu_client_rows.specs.Bytes.{page_size}
 use Rattle.lu_client_rows.specs.Calls.{asks, calls_at}
@@ -48,7 +49,7 @@ use Rattle.lu_guards.proofs.HeedMarks.{heeds_marks, marks_left, MarkNext}
 use Rattle.lu_guards.proofs.Guards.{In, JustHeard, HadUsed, used_in, StandsOk, Owes, marks_of}
 use Rattle.lu_guards.proofs.Lists.{self, life_is, turn, turn_more}
 use Rattle.lu_guards.proofs.Turns.{Settled, owes_nothing}
-use Rattle.lu_guards.proofs.Calls.{had_all}
+use Rattle.lu_guards.proofs.Calls.{had_all, mine_all}
 use Rattle.lu_guards.proofs.CallStands.{IdleAt, Wanting, Sizing, Locking, Waiting, Getting, HasAsked, Idle, Looking, Movable, idle_moves}
 use Rattle.lu_guards.proofs.ClientHandles.{Tied}
 use Rattle.lu_guards.proofs.ClientLines.{IsLock, IsBytes, IsSimple, heeds_nothing, SmallOn, small_on}
@@ -248,6 +249,9 @@ module _ (head : table.Head) (c : ℕ) (stamp : Stamp) where
       had : HadUsed c slot q r0.stage
       had = had_all (the_head head c stamp) q h.since.good.grown c slot answered now
 
+      mine : (u : Using) → In u (used_in r0.stage) → In (name_under u.want u.lock) r0.pins
+      mine = mine_all (the_head head c stamp) q h.since.good.grown c slot answered now
+
       objects : IsOnObjects r0.stage
       objects = subst OnStage now (stage_on (the_head head c stamp) c slot q h.since.good.grown h.since.good.covered)
 
@@ -330,6 +334,9 @@ module _ (head : table.Head) (c : ℕ) (stamp : Stamp) where
             ∙ ap (λ (ks : List Lock). lock_heard k4.who slot answered l.work r.answer ks (g.wanted ∷ g.left)) (brought_so a e ∙ so)
             ∙ ap (λ (x : Answer). lock_heard k4.who slot answered l.work x ls (g.wanted ∷ g.left)) e
 
+        asked_so : f.op ≡ op.Enqueue g.wanted.resource g.wanted.mode extent
+        asked_so = of_op ∙ ap (λ (x : Resource). op.Enqueue x mode extent) range.1 ∙ ap (λ (m : Mode). op.Enqueue g.wanted.resource m extent) range.2
+
         left_objects : OnObjects l.work.left
         left_objects = subst IsOnObjects l.stage objects
 
@@ -376,11 +383,25 @@ module _ (head : table.Head) (c : ℕ) (stamp : Stamp) where
                     work = l.work;
                     lock = lock;
                     is = refl;
-                    from = inl (l.stage, (record { target = t; reply = r; answered = refl; heard = h.since.just }, f.op, subst (λ (ls : List Lock). In lock ls) (sym locks_so) (inl refl)));
+                    from = inl (record {
+                      stage = l.stage;
+                      answers = record { target = t; reply = r; answered = refl; heard = h.since.just };
+                      wanted = g.wanted;
+                      left = g.left;
+                      first = g.first;
+                      of_target = of_target;
+                      flight = f;
+                      now = h.now (bare head c stamp p n t r f s found high);
+                      extent = extent;
+                      policy = range.0;
+                      of_op = asked_so;
+                      brings = subst (λ (ls : List Lock). In lock ls) (sym locks_so) (inl refl);
+                    });
                   }),
                 )))));
                 had = had_work;
                 uses = λ u i. inl (stays_used u i);
+                mine = λ u i. mine u (stays_used u i);
               }
 
           stands : Stood head c stamp slot came q
@@ -446,7 +467,7 @@ module _ (head : table.Head) (c : ℕ) (stamp : Stamp) where
                     now = h.now (bare head c stamp p n t r f s found high);
                     extent = extent;
                     policy = range.0;
-                    of_op = of_op ∙ ap (λ (x : Resource). op.Enqueue x mode extent) range.1 ∙ ap (λ (m : Mode). op.Enqueue g.wanted.resource m extent) range.2;
+                    of_op = asked_so;
                     cookie = cookie;
                     tells = is;
                     is = refl;
@@ -454,6 +475,7 @@ module _ (head : table.Head) (c : ℕ) (stamp : Stamp) where
                 )))));
                 had = had_work;
                 uses = λ u i. inl (stays_used u i);
+                mine = λ u i. mine u (stays_used u i);
               }
 
           stood_so : Stood head c stamp slot waits q
@@ -531,6 +553,7 @@ module _ (head : table.Head) (c : ℕ) (stamp : Stamp) where
               how = inr (inr (inr (inr (inr (refl, inr (inr (inr (inr (record { work = g.work; is = refl; from = inr (g.stage, record { target = t; reply = r; answered = refl; heard = m.just }) })))))))));
               had = subst (λ (x : Stage). HadUsed c slot z x) g.stage (had_all (the_head head c stamp) z m.good.grown c slot answered call_now);
               uses = λ u i. inl (subst (λ (x : Stage). In u (used_in x)) (sym g.stage) i);
+              mine = λ u i. mine u (subst (λ (x : Stage). In u (used_in x)) (sym g.stage) i);
             }
 
         anew_stood : Stood head c stamp slot anew z

@@ -3,7 +3,7 @@
 -- allowed, and then each call waits; no held lock that isn't pinned is marked where its target serves, but one to write under, and handles are
 -- bound as calls say.
 use Rattle.std.proofs.Common.{◌≡◌, ℕ, zero, suc, ◌+◌, ◌<◌, ◌≤◌, Bool, true, false, List, [], ◌∷◌, ◌++◌, ◌⊎◌, inl, inr, ⊎_elim, Option, Some, None, refl, sym, subst, ap, ◌∙◌, arith, add-one}
-use Rattle.std.specs.Prelude.{nat_eq, nat_lt, not, ◌&&◌, length, if◌then◌else◌, map, filter, reverse, drop}
+use Rattle.std.specs.Prelude.{nat_eq, nat_lt, not, ◌&&◌, ◌||◌, length, if◌then◌else◌, map, filter, reverse, drop}
 use Rattle.std.specs.List.{range_with_len}
 use Rattle.std.proofs.lemmas.Bool.{and_parts, eqb-true, ltb-true, not-true}
 use Rattle.std.proofs.lemmas.Bool.Decides.{nat_tests}
@@ -13,6 +13,7 @@ use Rattle.lu_base.specs.declared.ids.Node.TheVariants.{Client, Target}
 use Rattle.lu_base.specs.declared.ids.Stamp.{Stamp}
 use Rattle.lu_base.specs.declared.ids.Who.{Who}
 use Rattle.lu_base.specs.declared.ids.Cookie.{Cookie}
+use Rattle.lu_base.specs.declared.locks.Extent.{Extent}
 use Rattle.lu_base.specs.declared.locks.Mode.{Mode}
 use Rattle.lu_base.specs.declared.locks.Mode.TheVariants.{PW}
 use Rattle.lu_base.specs.declared.locks.Policy.{Policy}
@@ -32,7 +33,7 @@ use Rattle.lu_words.specs.Concerns.{only}
 use Rattle.lu_client_rows.specs.Caches.{held_at, patch_at, patches_at}
 use Rattle.lu_client_rows.specs.Imports.{Import, import_at, import_of, is_serving}
 use Rattle.lu_client_rows.specs.Locks.{marks_of, trims, is_called, must_write, writes_next, writes_under, gives_up, visits, visits_all, locks_go, dirty_total}
-use Rattle.lu_client_rows.specs.Patches.{Patch, in_flight}
+use Rattle.lu_client_rows.specs.Patches.{Patch, in_flight, has_change, dirty_in}
 use Rattle.lu_client_rows.specs.Sending.{front_waits, has_room, next_flight, request_of, sends_request, flies, sends, sends_to, sends_all}
 use Rattle.lu_client_rows.specs.States.{follow}
 use Rattle.lu_client_rows.specs.WriteBack.{operation, writes_back, flush_under}
@@ -67,6 +68,17 @@ in_reverse {A} x (y ∷ xs) i =
 must_writer : (over : Bool) (h : HeldLock) (m : Mode) (q : Policy) (p : Patch) → must_write over h m q p ≡ true → m ≡ PW
 must_writer over h PW (Range extent) p e = refl
 must_writer over h m q p e = absurd (cc)
+
+-- where nothing must be written under a lock that is called back, no change is left there
+clean_under : (over : Bool) (h : HeldLock) (p : Patch) → is_called h ≡ true → must_write over h h.lock.ask.mode h.lock.ask.policy p ≡ false → h.lock.ask.mode ≡ PW → (x : Extent) → h.lock.ask.policy ≡ Range x → has_change x p ≡ false
+clean_under over h p called none mode x range =
+    by (is_called h) (has_change x p) (over && nat_lt 0 (dirty_in x p)) called
+    (sym (ap (λ (m : Mode). must_write over h m (Range x) p) mode) ∙ sym (ap (λ (q : Policy). must_write over h h.lock.ask.mode q p) range) ∙ none)
+  where
+    by : (a b c : Bool) → a ≡ true → ((a && b) || c) ≡ false → b ≡ false
+    by true false c e n = refl
+    by true true c e n = absurd (cc)
+    by false b c e n = absurd (cc)
 
 flush_writer : (p : Patch) (m : Mode) (q : Policy) (change : Flush) → flush_under p m q ≡ Some change → (m ≡ PW) × HasRange q
 flush_writer p PW (Range extent) change e = (refl, tt)
@@ -330,7 +342,7 @@ module _ (head : table.Head) (c : ℕ) (stamp : Stamp) where
             object = range_object p h r.good.grown i writer.1;
             mode = writer.0;
             change = change;
-            takes = (refl, refl);
+            takes = (refl, refl, next);
             of_op = refl;
           })) (λ t e. back_in_order h.lock.resource h.lock.cookie change) tt refl
 
@@ -404,11 +416,11 @@ module _ (head : table.Head) (c : ℕ) (stamp : Stamp) where
     story : only t p1 ≡ line at (Drop t r.lock) ∷ only t p
     story = ap (λ (b : Bool). if b then line at (Drop t r.lock) ∷ only t p else only t p) (self t)
 
-    dropped : standing_at c t p ≡ Serving → is_called r ≡ true → Good head c at p1
-    dropped serves called =
+    dropped : must_write over r r.lock.ask.mode r.lock.ask.policy patch ≡ false → standing_at c t p ≡ Serving → is_called r ≡ true → Good head c at p1
+    dropped none serves called =
         let parts = and_parts r.marked (nat_eq r.pins 0) called in
         adds head c stamp p (Drop t r.lock) v.rested.good (owes_nothing p at (Drop t r.lock) v.rested.settled)
-        (inl (record { holding = r; held = i; of_target = refl; is = refl; marked = parts.0; free = eqb-true r.pins 0 parts.1; serves = serves }))
+        (inl (record { holding = r; held = i; of_target = refl; is = refl; marked = parts.0; free = eqb-true r.pins 0 parts.1; serves = serves; clean = clean_under over r patch called none }))
         (at_one head c stamp t (λ (u : ℕ). DropOk (only u p) c t r.lock) (record {
           holding = r;
           held = held_into c t p r refl i;
@@ -431,11 +443,11 @@ module _ (head : table.Head) (c : ℕ) (stamp : Stamp) where
         }))
         tt refl
 
-    goes : standing_at c t p ≡ Serving → is_called r ≡ true → Visiting rs p2
-    goes serves e =
+    goes : must_write over r r.lock.ask.mode r.lock.ask.policy patch ≡ false → standing_at c t p ≡ Serving → is_called r ≡ true → Visiting rs p2
+    goes none serves e =
         record {
           rested = record {
-            good = cancelled (dropped serves e);
+            good = cancelled (dropped none serves e);
             settled = tt;
             idle = v.rested.idle;
             handles = v.rested.handles;
@@ -453,8 +465,8 @@ module _ (head : table.Head) (c : ℕ) (stamp : Stamp) where
         other : (x : HeldLock) → In x (held_at c p1) → r ≡ x → ⊥
         other x i s = let q : true ≡ false = sym (own_name name) ∙ ap (is_named name) s ∙ (was x i).1 in cc
 
-    gone_or : Visiting rs (with_turn at (if is_called r && is_serving (standing_at c r.target.0 p) then given_up (life_at c p) (known_at c r.target.0 p) r else []) p)
-    gone_or = by (is_called r) refl (standing_at c r.target.0 p) refl
+    gone_or : must_write over r r.lock.ask.mode r.lock.ask.policy patch ≡ false → Visiting rs (with_turn at (if is_called r && is_serving (standing_at c r.target.0 p) then given_up (life_at c p) (known_at c r.target.0 p) r else []) p)
+    gone_or none = by (is_called r) refl (standing_at c r.target.0 p) refl
       where
         not_called : is_called r ≡ false → Visiting rs p
         not_called e = stays (λ x s q. inl (subst (λ (y : HeldLock). is_called y ≡ false) s e))
@@ -464,7 +476,7 @@ module _ (head : table.Head) (c : ℕ) (stamp : Stamp) where
 
         by : (b : Bool) → is_called r ≡ b → (x : Standing) → standing_at c r.target.0 p ≡ x → Visiting rs (with_turn at (if b && is_serving x then given_up (life_at c p) (known_at c r.target.0 p) r else []) p)
         by false e x q = not_called e
-        by true e Serving q = goes q e
+        by true e Serving q = goes none q e
         by true e Joining q = not_served (λ k. let j : Joining ≡ Serving = sym q ∙ k in absurd (cc))
         by true e Recovering q = not_served (λ k. let j : Recovering ≡ Serving = sym q ∙ k in absurd (cc))
 
@@ -474,7 +486,7 @@ module _ (head : table.Head) (c : ℕ) (stamp : Stamp) where
         by : (b : Bool) → must_write over r r.lock.ask.mode r.lock.ask.policy patch ≡ b
             → Visiting rs (with_turn at (if b then writes_under r patch else if is_called r && is_serving (standing_at c r.target.0 p) then given_up (life_at c p) (known_at c r.target.0 p) r else []) p)
         by true e = writes (must_writer over r r.lock.ask.mode r.lock.ask.policy patch e)
-        by false e = gone_or
+        by false e = gone_or e
 
   not_called : (marked : Bool) (pins : ℕ) → pins ≡ 0 → (marked && nat_eq pins 0) ≡ false → marked ≡ false
   not_called false pins free e = refl

@@ -15,11 +15,11 @@ use Rattle.lu_held.specs.declared.locks.HeldLock.{HeldLock}
 use Rattle.lu_held.specs.declared.locks.Use.{Use}
 use Rattle.lu_held.specs.Held.{serving}
 use Rattle.lu_words.specs.declared.uses.Using.{Using}
-use Rattle.lu_guards.proofs.Calls.{had_all}
+use Rattle.lu_guards.proofs.Calls.{had_all, mine_all}
 use Rattle.lu_guards.proofs.ClientGood.{the_head}
 use Rattle.lu_words.specs.Carried.{HandleFile, Glimpses, Work, Asked, Sizes, Running, Kind, Asking, Unasked, Answered, Plain, Looks, Enqueued, Came}
 use Rattle.lu_words.specs.Words.{Entry, Told, Stands, Line}
-use Rattle.lu_client_rows.specs.Advances.{at_stage, tells, asks_lock, enqueue_of}
+use Rattle.lu_client_rows.specs.Advances.{at_stage, tells, asks_lock, enqueue_of, name_under}
 use Rattle.lu_client_rows.specs.Caches.{held_at}
 use Rattle.lu_client_rows.specs.Glimpses.{sized, asks_size, glimpses, glimpses_on, glimpse_asks, glimpse_comes, glimpse_hears}
 use Rattle.lu_client_rows.specs.Looks.{size_under}
@@ -93,6 +93,7 @@ module _ (head : table.Head) (c : ℕ) (stamp : Stamp) where
     nothing : r.pins ≡ []
     had : (u : Using) → In u w.used → HadLock c slot u.want p
     uses : UsesHeld c p r w.used
+    mine : (u : Using) → In u w.used → In (name_under u.want u.lock) r.pins
 
   module _ (slot : ℕ) (r : Running) (w : Work) (base : List ℕ) (passed : List Use) (before p : List Line) where
     abbrev Now : List Use → List ℕ → List Use → Type 0
@@ -180,7 +181,8 @@ module _ (head : table.Head) (c : ℕ) (stamp : Stamp) where
           });
           had = g.had;
           uses = g.uses;
-        }) covered.0 tt
+          mine = g.mine;
+        }) covered.0 (refl, refl)
         (inr (inl (record { work = work; stage = refl; still = g.ready.still; wanted = wanted; left = left; first = refl; of_target = refl; object = covered.0.0; of_op = refl }))) tt
         (λ who patches. inl (inr (inl (record {
           sizing = record { work = work; stage = refl; sized = on_sizes us ns (wanted ∷ left) g asked work refl refl refl refl refl refl refl; wanted = wanted; left = left; first = refl };
@@ -215,6 +217,7 @@ module _ (head : table.Head) (c : ℕ) (stamp : Stamp) where
           nothing = g.nothing;
           had = g.had;
           uses = g.uses;
+          mine = g.mine;
         }
 
     glimpses_good : (left us : List Use) (ns : List ℕ) → Now us ns left → Going head c stamp slot r before (glimpses at slot left (base ++ ns) r w (store_at c p)) p
@@ -257,6 +260,7 @@ module _ (head : table.Head) (c : ℕ) (stamp : Stamp) where
           });
           had = g.had;
           uses = g.uses;
+          mine = g.mine;
         }) covered.0 tt
         (inr (inr (inl (record {
           work = work;
@@ -332,6 +336,7 @@ module _ (head : table.Head) (c : ℕ) (stamp : Stamp) where
         nothing = nothing;
         had = λ u i. absurd (subst (λ (us : List Using). In u us) unused i);
         uses = λ u i. absurd (subst (λ (us : List Using). In u us) unused i);
+        mine = λ u i. absurd (subst (λ (us : List Using). In u us) unused i);
       })
 
   -- it goes on with these sizes, behind which come those under held locks
@@ -354,6 +359,7 @@ module _ (head : table.Head) (c : ℕ) (stamp : Stamp) where
           nothing = z.nothing;
           had = λ u i. had_all (the_head head c stamp) p y.good.grown c slot r y.call u (in_use u i);
           uses = λ u i. inl (in_use u i);
+          mine = λ u i. mine_all (the_head head c stamp) p y.good.grown c slot r y.call u (in_use u i);
         }
       where
         in_use : (u : Using) → In u w.used → In u (used_in r.stage)
@@ -383,11 +389,28 @@ module _ (head : table.Head) (c : ℕ) (stamp : Stamp) where
         (record { work = w; stage = is; before = z.sizes; kind = z.kind; held = []; more = sym (ends z.sizes) })
 
     -- the lock came
-    came_on : (lock : Lock) → r.stage ≡ Came w lock → Going head c stamp slot r before (glimpse_comes at slot lock (wanted ∷ left) z.sizes r w (store_at c p)) p
-    came_on lock is =
-        let size = size_under lock (store_at c p) in
+    came_on : (m : Coming c p r) → m.work ≡ w → m.wanting.wanted ≡ wanted → Going head c stamp slot r before (glimpse_comes at slot m.lock (wanted ∷ left) z.sizes r w (store_at c p)) p
+    came_on m same wants =
+        let size = size_under m.lock (store_at c p) in
         with_one size (record {
-          so_far = λ held. inr (inr (inr (record { work = w; lock = lock; stage = is; before = z.sizes; kind = z.kind; held = held; more = append_assoc z.sizes (size ∷ []) held })));
+          so_far = λ held. inr (inr (inr (record {
+            work = w;
+            lock = m.lock;
+            stage = m.stage ∙ ap (λ (v : Work). Came v m.lock) same;
+            wanted = wanted;
+            left = left;
+            first = first;
+            holding = m.holding;
+            holds = m.held;
+            of_target = m.of_target ∙ ap (λ (u : Use). u.target.0) wants;
+            is = m.is;
+            of_object = m.of_object ∙ ap (λ (u : Use). u.resource) wants;
+            ranged = m.ranged;
+            before = z.sizes;
+            kind = z.kind;
+            held = held;
+            more = append_assoc z.sizes (size ∷ []) held;
+          })));
           count = λ held. sym (one_more z.sizes size);
         })
 
@@ -453,4 +476,4 @@ module _ (head : table.Head) (c : ℕ) (stamp : Stamp) where
   glimpse_came slot r before p y settled m z =
       subst (λ (es : List Entry). Going head c stamp slot r before es p)
       (sym (ap (λ (x : Kind). comes_at at slot x r m.work (store_at c p) m.lock) z.kind ∙ ap (λ (us : List Use). glimpse_comes at slot m.lock us z.sizes r m.work (store_at c p)) m.wanting.first))
-      (came_on slot r before p y settled m.work (ap work_in m.stage) z m.wanting.wanted m.wanting.left m.wanting.first m.lock m.stage)
+      (came_on slot r before p y settled m.work (ap work_in m.stage) z m.wanting.wanted m.wanting.left m.wanting.first m refl refl)

@@ -75,7 +75,7 @@ module _ (head : table.Head) (c : ℕ) (stamp : Stamp) where
   of_flush slot e k = absurd k
 
   pub flush_owes : (slot : ℕ) (p : List Line) (e x : Entry) → FlushLine slot e → Owes p at x → Owes (line at e ∷ p) at x
-  flush_owes slot p (Stands s r) x k owes = stood_by r.stage (Owes p at x) owes
+  flush_owes slot p (Stands s r) x k owes = stood_by r.stage (Owes p at x) (at ≡ at) s x k.1 owes
   flush_owes slot p (WritesBack resource change) x k owes = owes
   flush_owes slot p (Queues t q) x k owes = subst (λ (o : Option ℕ). OwesQueued o (Owes p at x)) (sym k) owes
   flush_owes slot p e x k owes = absurd k

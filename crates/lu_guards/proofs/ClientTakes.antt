@@ -30,7 +30,7 @@ use Rattle.lu_covered.specs.Known.{notes_at, known_file}
 use Rattle.lu_table.specs.Heads as table
 use Rattle.lu_table.specs.Runs.{limits_of, client_of}
 use Rattle.lu_after.proofs.Clients.{client_own}
-use Rattle.lu_guards.proofs.Guards.{HasRange, In, ReadsOn, ChangesOn, IsChange, wanted_by, KnowsFile, ToldFile, GoesOn, StatOf, LacksOf, Locked, HadLock, used_in, UsesHeld, PinsOk, SizesStand, LockStand, StatStand, GetStand, FlushStand, MovedStand, Owes}
+use Rattle.lu_guards.proofs.Guards.{HasRange, In, ReadsOn, ChangesOn, IsChange, wanted_by, KnowsFile, ToldFile, GoesOn, StatOf, LacksOf, Locked, HadLock, used_in, LockDoes, CameFor, HeldFor, UsesHeld, PinsOk, SizesStand, LockStand, StatStand, GetStand, FlushStand, MovedStand, Owes}
 use Rattle.lu_guards.proofs.ClientStoryGuards.{AsksInOrder}
 use Rattle.lu_guards.proofs.Lists.{self, in_append, in_left, in_right, turn}
 use Rattle.lu_guards.proofs.Covers.{EntriesCovered}
@@ -44,7 +44,7 @@ use Rattle.lu_guards.proofs.CallStands.{StatsOn}
 use Rattle.lu_guards.proofs.ClientGood.{Good, the_head, held_line}
 use Rattle.lu_guards.proofs.CallMoves.{Ready, ready_pins, Went, went_asks}
 use Rattle.lu_guards.proofs.ClientKnown.{known_file_pinned, cookies_pinned}
-use Rattle.lu_guards.proofs.ClientLooks.{IsShort, ByteUse, mode_of, wants_ok, wanted_in, enqueues, serving_is, Serves, serves_so, store_so}
+use Rattle.lu_guards.proofs.ClientLooks.{IsShort, ByteUse, mode_of, wants_ok, wanted_in, enqueues, serving_is, Serves, serves_so, does_so, store_so}
 
 -- one more lock in use
 used_more : (us : List Using) (u : Using) (left : List Use) → map (λ (v : Using). v.want) (us ++ u ∷ []) ++ left ≡ map (λ (v : Using). v.want) us ++ u.want ∷ left
@@ -264,13 +264,14 @@ module _ (head : table.Head) (c : ℕ) (stamp : Stamp) where
       held = subst (λ (hs : List HeldLock). In h hs) (sym (held_line head c stamp p (Pins n))) (in_mapped (λ (y : HeldLock). if is_named n y then after change.Pin y else y) k.holding (held_at c p) k.held)
 
   -- it is used
-  pub record Takes (wanted : Use) (l : Lock) (p : List Line) : Type 0 where
+  pub record Takes (r : Running) (wanted : Use) (l : Lock) (p : List Line) : Type 0 where
     pub locked : Locked c p wanted
     pub is : locked.holding.lock ≡ l
+    pub does : LockDoes (record { want = wanted; lock = l }) ⊎ CameFor r (record { want = wanted; lock = l })
     pub object : 0 < wanted.target.0
     pub ok : PinsOk p c (name_under wanted l)
 
-  take_good : (slot : ℕ) (r : Running) (kind : Kind) (pins : List LockName) (w : Work) (wanted : Use) (left : List Use) (l : Lock) (before p : List Line) → Seeking slot r kind pins w (wanted ∷ left) before p → Takes wanted l p
+  take_good : (slot : ℕ) (r : Running) (kind : Kind) (pins : List LockName) (w : Work) (wanted : Use) (left : List Use) (l : Lock) (before p : List Line) → Seeking slot r kind pins w (wanted ∷ left) before p → Takes r wanted l p
       → Seeking slot r kind (pins ++ name_under wanted l ∷ []) (using wanted l left w) left before (line at (Pins (name_under wanted l)) ∷ p)
   take_good slot r kind pins w wanted left l before p g t =
       record {
@@ -283,7 +284,7 @@ module _ (head : table.Head) (c : ℕ) (stamp : Stamp) where
         mine = each (λ v. In (name_under v.want v.lock) (pins ++ name ∷ [])) (λ v i. in_left (name_under v.want v.lock) pins (name ∷ []) (g.mine v i)) (in_right name pins (name ∷ []) (inl refl));
         objects = each (λ v. 0 < v.want.target.0) g.objects t.object;
         had = each (λ v. HadLock c slot v.want p1) (λ v i. inr (g.had v i)) (inr (had_now c slot wanted p t.locked));
-        uses = each (λ v. In v (used_in r.stage) ⊎ ((k : Locked c p1 v.want) × (k.holding.lock ≡ v.lock))) (λ v i. ⊎_elim (λ (j : In v (used_in r.stage)). inl j) (λ (k : (k : Locked c p v.want) × (k.holding.lock ≡ v.lock)). inr (still v.want v.lock k)) (g.uses v i)) (inr (still wanted l (t.locked, t.is)));
+        uses = each (λ v. In v (used_in r.stage) ⊎ HeldFor c p1 r v) (λ v i. ⊎_elim (λ (j : In v (used_in r.stage)). inl j) (λ (k : HeldFor c p r v). inr (still v k)) (g.uses v i)) (inr (still u (record { locked = t.locked; is = t.is; does = t.does })));
       }
     where
       name : LockName
@@ -295,8 +296,8 @@ module _ (head : table.Head) (c : ℕ) (stamp : Stamp) where
       u : Using
       u = record { want = wanted; lock = l }
 
-      still : (x : Use) (m : Lock) → ((k : Locked c p x) × (k.holding.lock ≡ m)) → (k : Locked c p1 x) × (k.holding.lock ≡ m)
-      still x m k = let j = locked_pinned name p x k.0 in (j.0, j.1 ∙ k.1)
+      still : (v : Using) → HeldFor c p r v → HeldFor c p1 r v
+      still v k = let j = locked_pinned name p v.want k.locked in record { locked = j.0; is = j.1 ∙ k.is; does = k.does }
 
       each : (P : Using → Type 0) → ((v : Using) → In v w.used → P v) → P u → (v : Using) → In v (w.used ++ u ∷ []) → P v
       each P all own v i = ⊎_elim (λ (j : In v w.used). all v j) (λ (j : In v (u ∷ [])). ⊎_elim (λ (q : u ≡ v). subst P q own) (λ (n : ⊥). absurd n) j) (in_append v w.used (u ∷ []) i)
@@ -310,7 +311,7 @@ module _ (head : table.Head) (c : ℕ) (stamp : Stamp) where
 
   -- it is pinned, and the next ones are looked for
   pub takes_on : (slot : ℕ) (r : Running) (kind : Kind) (next : Next) (pins : List LockName) (w : Work) (wanted : Use) (left : List Use) (l : Lock) (before p : List Line) → Seeking slot r kind pins w (wanted ∷ left) before p
-      → Takes wanted l p → ((ps : List LockName) (v : Work) (q : List Line) → Seeking slot r kind ps v left before q → Going slot r before (looks slot next left (record r { pins = ps }) v (store_at c q)) q)
+      → Takes r wanted l p → ((ps : List LockName) (v : Work) (q : List Line) → Seeking slot r kind ps v left before q → Going slot r before (looks slot next left (record r { pins = ps }) v (store_at c q)) q)
       → Going slot r before (takes_up slot wanted l left (looks slot next left) (record r { pins = pins }) w (store_at c p)) p
   takes_on slot r kind next pins w wanted left l before p g t more covered =
       let name = name_under wanted l in
@@ -355,6 +356,7 @@ module _ (head : table.Head) (c : ℕ) (stamp : Stamp) where
         how = how g.does;
         had = g.had;
         uses = g.uses;
+        mine = g.mine;
       }) covered.0 tt
       (inr (inr (inl (record {
         work = work;
@@ -421,11 +423,12 @@ module _ (head : table.Head) (c : ℕ) (stamp : Stamp) where
   -- ---- it looks for its locks, one after another
 
   -- a held one that serves is used
-  takes_held : (wanted : Use) (p : List Line) → Good head c at p → ByteUse wanted → (h : HeldLock) → serving wanted (held_at c p) ≡ Some h → Takes wanted h.lock p
-  takes_held wanted p good one h is =
+  takes_held : (r : Running) (wanted : Use) (p : List Line) → Good head c at p → ByteUse wanted → (h : HeldLock) → serving wanted (held_at c p) ≡ Some h → Takes r wanted h.lock p
+  takes_held r wanted p good one h is =
       record {
         locked = record { holding = h; held = found.0; of_target = serves.of_target; of_object = serves.of_object; ranged = serves.ranged };
         is = refl;
+        does = inl (does_so wanted h found.1);
         object = subst (λ (n : ℕ). 0 < n) serves.of_target (held_range p good h found.0 serves.ranged);
         ok = inl (λ x i n. ap (λ (y : HeldLock). y.marked) (sym (once_same (held_at c p) h x (held_once (the_head head c stamp) c p good.grown) found.0 i (ap (λ (m : LockName). is_named m x) name ∙ n))) ∙ serves.unmarked);
       }
@@ -450,4 +453,4 @@ module _ (head : table.Head) (c : ℕ) (stamp : Stamp) where
           → Going slot r before (looks_on slot (λ h. takes_up slot wanted h.lock left (looks slot next left) (record r { pins = pins }) w (store_at c p)) wanted left (record r { pins = pins }) w o) p
       by None e more covered = locks_good slot r kind pins w wanted left before p g e covered
       by (Some h) e more covered =
-          takes_on slot r kind next pins w wanted left h.lock before p g (takes_held wanted p g.ready.good (wants_one slot r kind pins w wanted left before p g).1.0 h e) more covered
+          takes_on slot r kind next pins w wanted left h.lock before p g (takes_held r wanted p g.ready.good (wants_one slot r kind pins w wanted left before p g).1.0 h e) more covered

@@ -143,6 +143,7 @@ module _ (head : table.Head) (c : ℕ) (stamp : Stamp) where
       (record {
         locked = record { holding = m.holding; held = m.held; of_target = m.of_target; of_object = ap (λ (l : Lock). l.resource) m.is ∙ m.of_object; ranged = subst (λ (l : Lock). HasRange l.ask.policy) (sym m.is) m.ranged };
         is = m.is;
+        does = inr (w, left, m.stage, m.wanting.first);
         object = m.object;
         ok = ⊎_elim (λ (free : m.holding.marked ≡ false). inl (λ x i n. ap (λ (h : HeldLock). h.marked) (sym (once_same (held_at c p) m.holding x (held_once (the_head head c stamp) c p y.good.grown) m.held i (own x n))) ∙ free))
             (λ (given : WasGiven c p). inr (record { slot = slot; running = r; call = y.call; work = w; lock = m.lock; stage = m.stage; wanted = wanted; left = left; first = m.wanting.first; is = refl; given = given })) m.how;

@@ -2,24 +2,25 @@
 -- they are told.
 use Rattle.lu_layout.specs.Raid0.{Raid0}
 use Rattle.lu_base.specs.declared.locks.Resource.{Resource}
-use Rattle.std.proofs.Common.{◌≡◌, ℕ, ◌+◌, ◌-◌, List, [], ◌∷◌, ◌++◌, ◌⊎◌, inl, inr, ⊎_elim, Option, Some, refl, sym, subst, ap, ◌∙◌}
+use Rattle.std.proofs.Common.{◌≡◌, ℕ, ◌+◌, ◌-◌, List, [], ◌∷◌, ◌++◌, ◌⊎◌, inl, inr, ⊎_elim, Some, refl, sym, subst, ap, ◌∙◌}
 use Rattle.std.specs.Prelude.{length, map}
 use Rattle.lu_base.specs.declared.ids.At.{At}
 use Rattle.lu_base.specs.declared.ids.Node.TheVariants.{Client}
 use Rattle.lu_base.specs.declared.ids.Stamp.{Stamp}
+use Rattle.lu_held.specs.declared.locks.HeldLock.{HeldLock}
 use Rattle.lu_held.specs.declared.locks.Use.{Use}
 use Rattle.lu_held.specs.declared.names.LockName.{LockName}
 use Rattle.lu_words.specs.declared.uses.Using.{Using}
 use Rattle.lu_words.specs.Carried.{Kind, Writes, Cuts, Work, Running}
-use Rattle.lu_words.specs.Words.{Entry, Told, Line, line, with_turn, Changes, Shows}
+use Rattle.lu_words.specs.Words.{Entry, Tick, Told, Line, line, with_turn, Changes, Shows}
 use Rattle.lu_client_rows.specs.Advances.{tells, writes_on, writes, cuts}
+use Rattle.lu_client_rows.specs.Caches.{held_at}
 use Rattle.lu_table.specs.Heads as table
-use Rattle.lu_guards.proofs.Guards.{ChangesOk, In, ChangesOn, wanted_by, Locked, HadLock, used_in, UsesHeld, Owes, pieces_of, piece_on}
-use Rattle.lu_guards.proofs.Lists.{turn_more, turn}
+use Rattle.lu_guards.proofs.Guards.{ChangesOk, In, ChangesOn, wanted_by, HadLock, used_in, HeldFor, UsesHeld, Owes, pieces_of, piece_on, NotChanging}
+use Rattle.lu_guards.proofs.Lists.{in_right, turn_more, turn}
 use Rattle.lu_guards.proofs.ClientLines.{ends}
 use Rattle.lu_guards.proofs.CallMoves.{Ready, ready_changes, ready_shows, went_told}
 use Rattle.lu_guards.proofs.ClientLooks.{used_or_left}
-use Rattle.lu_msg.specs.declared.answers.Answer.{Answer}
 use Rattle.lu_msg.specs.declared.answers.Answer.TheVariants as answer
 use Rattle.lu_words.specs.declared.changes.Flush.{Flush}
 use Rattle.lu_words.specs.declared.changes.Flush.TheVariants.{Cut, Put}
@@ -49,7 +50,17 @@ module _ (head : table.Head) (c : ℕ) (stamp : Stamp) where
   -- a change, or the end of the call, is what comes next
   record Pays (q : List Line) : Type 0 where
     changes : (resource : Resource) (change : Flush) → Owes q at (Changes resource change)
-    told : (slot : ℕ) (t : At) (a : Answer) (w : Option Work) → Owes q at (Told slot t a w)
+    told : (slot : ℕ) (t : At) (w : Work) → Owes q at (Told slot t answer.Done (Some w))
+
+  -- where anything may come no call is at its changes
+  not_changing : (q : List Line) → ((e : Entry) → Owes q at e) → NotChanging q
+  not_changing [] any = tt
+  not_changing (l ∷ q) any = by l.entry any
+    where
+      by : (b : Entry) → ((e : Entry) → Owes (line l.at b ∷ q) at e) → NotChanging (line l.at b ∷ q)
+      by (Changes resource change) o = absurd (o Tick).1
+      by (Shows resource cookie last) o = λ n. absurd (o Tick).1
+      by b o = tt
 
   module _ (slot : ℕ) (r : Running) (kind : Kind) (pins : List LockName) (w : Work) (before p : List Line) (g : Seeking head c stamp slot r kind pins w [] before p) (on : ChangesOn r w) (owing : (e : Entry) → Owes p at e) where
     wants : wanted_by w ≡ map (λ (u : Using). u.want) w.used
@@ -63,6 +74,22 @@ module _ (head : table.Head) (c : ℕ) (stamp : Stamp) where
     locked q had x i =
         ⊎_elim (λ (k : (u : Using) × In u w.used × (u.want ≡ x)). subst (λ (y : Use). HadLock c slot y q) k.2 (had k.0 k.1)) (λ (n : ⊥). absurd n)
         (used_or_left (wanted_by w) (record w { left = [] }) g.order x i)
+
+    fresh : NotChanging p
+    fresh = not_changing p owing
+
+    -- the locks in use are held still
+    held_still : (q z : List Line) → held_at c z ≡ held_at c q → UsesHeld c q r w.used → UsesHeld c z r w.used
+    held_still q z same uses u i = ⊎_elim (λ (j : In u (used_in r.stage)). inl j) (λ (k : HeldFor c q r u). inr (still k)) (uses u i)
+      where
+        still : HeldFor c q r u → HeldFor c z r u
+        still k =
+            let l = k.locked in
+            record {
+              locked = record { holding = l.holding; held = subst (λ (hs : List HeldLock). In l.holding hs) (sym same) l.held; of_target = l.of_target; of_object = l.of_object; ranged = l.ranged };
+              is = k.is;
+              does = k.does;
+            }
 
     -- of what it made so far
     record Made (done : List Using) (q : List Line) : Type 0 where
@@ -90,12 +117,14 @@ module _ (head : table.Head) (c : ℕ) (stamp : Stamp) where
           is = is;
           before = p;
           made = m.is;
+          fresh = fresh;
+          uses = m.uses;
         }
 
     -- it is told
     done_good : (done : List Using) (q : List Line) → Made done q → w.used ≡ done → Going head c stamp slot r before (tells slot (record r { pins = pins }) at answer.Done (Some w)) q
     done_good done q m parts covered =
-        went_told head c stamp slot r at answer.Done (Some w) pins before q m.ready (m.pays.told slot at answer.Done (Some w))
+        went_told head c stamp slot r at answer.Done (Some w) pins before q m.ready (m.pays.told slot at w)
         (inr (inr (inr (inr (inr (inr (inr (inr (record {
           running = r;
           call = m.ready.call;
@@ -106,7 +135,7 @@ module _ (head : table.Head) (c : ℕ) (stamp : Stamp) where
           wants = wants;
           locked = locked q m.had;
           uses = m.uses;
-          made = record { before = p; is = m.is ∙ ap (λ (us : List Using). with_turn at (pieces_of w.layout w.kind us) p) (sym parts) };
+          made = record { before = p; is = m.is ∙ ap (λ (us : List Using). with_turn at (pieces_of w.layout w.kind us) p) (sym parts); fresh = fresh };
           of_turn = refl;
           of_answer = refl;
         })))))))))
@@ -139,15 +168,32 @@ module _ (head : table.Head) (c : ℕ) (stamp : Stamp) where
                   ready_shows head c stamp slot r u.want.resource u.lock.cookie last before q1
                   (ready_changes head c stamp slot r u.want.resource (Put first bytes) before q m.ready (m.pays.changes u.want.resource (Put first bytes))
                   (change_ok done u us q (Put first bytes) m parts (ap (λ (k : Kind). piece_on w.layout k u.want.resource.stripe) is)))
-                  (refl, tt) (inl (record { first = first; bytes = bytes; wrote = (refl, refl); is = refl }));
+                  (refl, tt) (inl (record {
+                    slot = slot;
+                    running = r;
+                    call = m.ready.call;
+                    work = w;
+                    does = on;
+                    wants = wants;
+                    uses = held_still q q1 refl m.uses;
+                    under = u;
+                    among = subst (λ (xs : List Using). In u xs) (sym parts) (in_right u done (u ∷ us) (inl refl));
+                    of_cookie = refl;
+                    of_object = refl;
+                    first = first;
+                    bytes = bytes;
+                    piece = ap (λ (k : Kind). piece_on w.layout k u.want.resource.stripe) is;
+                    wrote = (refl, refl);
+                    is = refl;
+                  }));
               is =
                   ap (λ (x : List Line). line at (Shows u.want.resource u.lock.cookie last) ∷ line at (Changes u.want.resource (Put first bytes)) ∷ x) (m.is ∙ ap (λ (k : Kind). with_turn at (pieces_of w.layout k done) p) is)
                   ∙ sym (turn_more at (writes w.layout o bs done) (writes_on u first bytes) p)
                   ∙ ap (λ (es : List Entry). with_turn at es p) (sym (write_more w.layout o bs done u))
                   ∙ ap (λ (k : Kind). with_turn at (pieces_of w.layout k (done ++ u ∷ [])) p) (sym is);
-              pays = record { changes = λ x y. (refl, tt); told = λ s t a v. (refl, tt) };
+              pays = record { changes = λ x y. (refl, tt); told = λ s t v. (refl, refl) };
               had = λ v i. inr (inr (m.had v i));
-              uses = λ v i. ⊎_elim (λ (j : In v (used_in r.stage)). inl j) (λ (k : (k : Locked c q v.want) × (k.holding.lock ≡ v.lock)). inr (record { holding = k.0.holding; held = k.0.held; of_target = k.0.of_target; of_object = k.0.of_object; ranged = k.0.ranged }, k.1)) (m.uses v i);
+              uses = held_still q q2 refl m.uses;
             }
 
     cut_good : (n : ℕ) → w.kind ≡ Cuts n → (us done : List Using) (q : List Line) → Made done q → w.used ≡ done ++ us
@@ -172,9 +218,9 @@ module _ (head : table.Head) (c : ℕ) (stamp : Stamp) where
                   ∙ sym (turn_more at (cuts w.layout n done) (Changes u.want.resource change ∷ []) p)
                   ∙ ap (λ (es : List Entry). with_turn at es p) (sym (cut_more w.layout n done u))
                   ∙ ap (λ (k : Kind). with_turn at (pieces_of w.layout k (done ++ u ∷ [])) p) (sym is);
-              pays = record { changes = λ x y. (refl, tt); told = λ s t a v. (refl, tt) };
+              pays = record { changes = λ x y. (refl, tt); told = λ s t v. (refl, refl) };
               had = λ v i. inr (m.had v i);
-              uses = λ v i. ⊎_elim (λ (j : In v (used_in r.stage)). inl j) (λ (k : (k : Locked c q v.want) × (k.holding.lock ≡ v.lock)). inr (record { holding = k.0.holding; held = k.0.held; of_target = k.0.of_target; of_object = k.0.of_object; ranged = k.0.ranged }, k.1)) (m.uses v i);
+              uses = held_still q q1 refl m.uses;
             }
 
     none_kind : (k : Kind) → pieces_of w.layout k [] ≡ []
@@ -187,7 +233,7 @@ module _ (head : table.Head) (c : ℕ) (stamp : Stamp) where
         record {
           ready = g.ready;
           is = sym (ap (λ (es : List Entry). with_turn at es p) (none_kind w.kind));
-          pays = record { changes = λ x y. owing (Changes x y); told = λ s t a v. owing (Told s t a v) };
+          pays = record { changes = λ x y. owing (Changes x y); told = λ s t v. owing (Told s t answer.Done (Some v)) };
           had = g.had;
           uses = g.uses;
         }

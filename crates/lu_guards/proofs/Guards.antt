@@ -7,7 +7,10 @@ use Rattle.lu_base.specs.declared.ids.At.{At}
 use Rattle.lu_base.specs.declared.ids.Node.{Node}
 use Rattle.lu_base.specs.declared.ids.Node.TheVariants.{Client, Target}
 use Rattle.lu_base.specs.declared.ids.Who.{Who}
+use Rattle.lu_base.specs.declared.locks.Extent.{Extent}
 use Rattle.lu_base.specs.declared.locks.Lock.{Lock}
+use Rattle.lu_base.specs.declared.locks.Mode.TheVariants.{PW}
+use Rattle.lu_base.specs.declared.locks.Policy.TheVariants.{Range}
 use Rattle.lu_msg.specs.declared.answers.Answer.{Answer}
 use Rattle.lu_msg.specs.declared.messages.GrantNotice.{GrantNotice}
 use Rattle.lu_msg.specs.declared.messages.Message.{Message}
@@ -18,7 +21,7 @@ use Rattle.lu_msg.specs.declared.operations.Op.{Op}
 use Rattle.lu_held.specs.declared.locks.HeldLock.{HeldLock}
 use Rattle.lu_held.specs.declared.names.LockName.{LockName}
 use Rattle.lu_held.specs.Locks.{is_named}
-use Rattle.lu_words.specs.Carried.{Deed, Said, Flight, Stage, Flushing}
+use Rattle.lu_words.specs.Carried.{Deed, Said, Flight, Stage, Flushing, Sizes}
 use Rattle.lu_words.specs.Words.{Entry, Begin, Changes, WritesBack, Shows as ShowsTo, Busy, Queues, Flies, Stands, Send, Take, Tick, Heard, Hold, Drop, Told, Die, Pins, Unpins, Marks, Learns, Act, Txn, Grant, Wait, Answers as Responds, Asks, Ends, Block, Release, Enters, Line, line, Skip, Commit, Life, Serves, Settles, Evict, Joined, Binds, Unbinds, Knows, Unmarks, Peek, Acks, Fills, Zeroes, Grown, Crash, Boot, Back, Close, Kept, Restore, Stores, Brings, Says, Wishes}
 use Rattle.lu_words.specs.Concerns.{only}
 use Rattle.lu_words.specs.Sent.{Sent}
@@ -28,18 +31,20 @@ use Rattle.lu_target_rows.specs.Recovery.{cut, empty_word}
 use Rattle.lu_target_rows.specs.Rows.{lock_again}
 use Rattle.lu_target_rows.specs.Leaving.{life_of as life_in}
 use Rattle.lu_target_rows.specs.Windows.{Window, is_replay, is_lock, word_of, is_newest, is_back}
-use Rattle.lu_client_rows.specs.Caches.{brought, held_at}
+use Rattle.lu_client_rows.specs.Caches.{brought, held_at, patch_at, patches_at}
 use Rattle.lu_client_rows.specs.Imports.{Serving}
 use Rattle.lu_covered.specs.Imports.{standing_at, kept_at}
 use Rattle.lu_client_rows.specs.Messages.{size_with}
+use Rattle.lu_client_rows.specs.Patches.{has_change}
 use Rattle.lu_client_rows.specs.Recovery.{next_life}
 use Rattle.lu_covered.specs.TargetStates.{server_of, slot_of, closed_of, window_of, boot_at}
 use Rattle.lu_covered.specs.Deeds.{asked}
 use Rattle.lu_covered.specs.Calls.{call_at, life_at}
 pub use Rattle.lu_guards.proofs.HeedMarks.{marks_of, MarkNext}
+use Rattle.lu_guards.proofs.HeedMarks.{owed_of}
 pub use Rattle.lu_guards.proofs.ClientGuards.{GivenOk, AsksWhere, TookAsk, PeekedNow, SizeOk, PeekOk}
 pub use Rattle.lu_guards.proofs.Heard.{HasRange, In, Was, HeardAs, JustHeard, HeardNow, Learned, TookNow, Took, Noticed, TookRequest, Dropped, request, name_of, Later, Steps, Ending, Closes, InTurn}
-pub use Rattle.lu_guards.proofs.CallGuards.{Begins, is_ready_for, is_welcome, BeginOk, IsAlone, IsGlimpse, IsFlush, IsRead, Reads, ReadsOn, WritesOn, CutsOn, ChangesOn, IsChange, InOrder, wanted_by, work_in, NamesAskOk, SizeAskOk, LockAskOk, GetAskOk, CallAsksOk, TakesBack, BackAskOk, QueuesOk, pieces_of, piece_on, ChangesOk, WritesBackOk, WroteNow, ShowsWritten, ShowsOk, held_by, store_by, AllSized, HeardSize, NoneHeard, LeftSize, CameSize, SizesSoFar, heard_sizes, HasSizes, SizesStand, LacksOf, LockStand, GetStand, KnowsFile, ToldFile, GoesOn, StatOf, StatStand, Replied, LockGranted, CameStand, WaitStand, MarkStand, ForgotStand, LookStand, MovedStand, HasChange, FlushStand, Locked, Unless, HadLock, used_of, used_in, HadUsed, UsesHeld, StandsOk}
+pub use Rattle.lu_guards.proofs.CallGuards.{Begins, is_ready_for, is_welcome, BeginOk, IsAlone, IsGlimpse, IsFlush, IsRead, Reads, ReadsOn, WritesOn, CutsOn, ChangesOn, IsChange, InOrder, wanted_by, work_in, NamesAskOk, SizeAskOk, LockAskOk, GetAskOk, CallAsksOk, TakesBack, BackAskOk, QueuesOk, pieces_of, piece_on, NewestChanges, NotChanging, ChangesOk, WritesBackOk, WroteNow, ShowsWritten, ShowsOk, held_by, store_by, AllSized, HeardSize, NoneHeard, LeftSize, CameSize, SizesSoFar, heard_sizes, HasSizes, SizesStand, LacksOf, LockStand, GetStand, KnowsFile, ToldFile, GoesOn, StatOf, StatStand, Replied, LockGranted, LockBrought, CameStand, WaitStand, MarkStand, ForgotStand, LookStand, MovedStand, HasChange, FlushStand, Locked, Unless, HadLock, used_of, used_in, HadUsed, LockDoes, CameFor, HeldFor, UsesHeld, StandsOk}
 pub use Rattle.lu_guards.proofs.ToldGuards.{IsToldAsIs, ToldOk, KnownOk, BadOk, SizesToldOk, ReadTells, ReadToldOk, StatToldOk, MadeNow, WroteOk, AllClean, FlushFrom, FlushedOk, EndsOk, TellsOk, WasGiven, CamePins, IsUnmarked, PinsOk, IsFlushing, OfFlush, StartsRead, Starts, StartsStat, OwesBegun, IsChanging, IsShowing}
 
 -- ---- over the whole past
@@ -62,7 +67,7 @@ IsFree past c name = (h : HeldLock) → In h (held_at c past) → is_named name 
 abbrev pub CallsBack : List Line → At → LockName → Type 0
 CallsBack past at name = (who : Who) × (boot : ℕ) × TookNow past at (Target name.target.0) (message.Block who boot name.cookie)
 
--- a held lock was called back or marked
+-- a held lock was called back or marked; under one to write no change of the object is left that wasn't taken to be written back
 pub record MarkedOk (past : List Line) (c t : ℕ) (lock : Lock) : Type 0 where
   pub holding : HeldLock
   pub held : In holding (held_at c past)
@@ -71,6 +76,7 @@ pub record MarkedOk (past : List Line) (c t : ℕ) (lock : Lock) : Type 0 where
   pub marked : holding.marked ≡ true
   pub free : holding.pins ≡ 0
   pub serves : standing_at c t past ≡ Serving
+  pub clean : lock.ask.mode ≡ PW → (x : Extent) → lock.ask.policy ≡ Range x → has_change x (patch_at lock.resource (patches_at c past)) ≡ false
 
 -- a marked lock that isn't pinned is given up, or its life is over
 abbrev pub GivesUp : List Line → At → (c t : ℕ) → Lock → Type 0
@@ -82,7 +88,12 @@ pub record WordOk (past : List Line) (at : At) (c t replayed locked : ℕ) : Typ
   pub locks : locked ≡ length (filter (λ (h : HeldLock). h.target.0 == t) (held_at c past))
   pub alive : Noticed past at (life_at c past) → ⊥
 
--- of a lock that came with the reply just heard
+-- what a client still has to show of the answer that it heard last
+abbrev pub owed_by : Node → List Line → List Entry
+owed_by (Client c) past = owed_of c past
+owed_by (Target t) past = []
+
+-- of a lock that came with the reply just heard: it is what is shown next
 pub record HoldsOk (past : List Line) (at : At) (t : ℕ) (lock : Lock) (marked : Bool) (size : Option ℕ) (seen : List ℕ) : Type 0 where
   pub flight : Flight
   pub reply : ReplyTo
@@ -91,6 +102,7 @@ pub record HoldsOk (past : List Line) (at : At) (t : ℕ) (lock : Lock) (marked 
   pub unmarked : marked ≡ false
   pub sized : size ≡ size_with reply.answer
   pub saw : seen ≡ reply.seen
+  pub next : (more : List Entry) × (owed_by at.node past ≡ Hold t lock marked size seen ∷ more)
 
 -- what the reply just heard told is known under its locks
 pub record LearnsOk (past : List Line) (at : At) (t : ℕ) (op : Op) (answer : Answer) (locks : List Lock) : Type 0 where
@@ -276,10 +288,16 @@ abbrev pub OwesAsked : (SameTurn : Type 0) → At → Lock → Option Deed → E
 OwesAsked SameTurn at lock None e = SameTurn × Gives lock e
 OwesAsked SameTurn at lock (Some d) e = Answers at d e
 
--- what a flush that waits does leaves what was owed
-abbrev pub OwesStood : Stage → (Before : Type 0) → Type 0
-OwesStood (Flushing stripe) Before = Before
-OwesStood _ Before = Unit {0}
+-- a request for the call in that slot is queued
+abbrev pub IsQueuedFor : ℕ → Entry → Type 0
+IsQueuedFor slot (Queues t q) = q.slot ≡ Some slot
+IsQueuedFor slot _ = ⊥
+
+-- what a flush that waits does leaves what was owed; a glimpse that is to ask how long an object is asks next
+abbrev pub OwesStood : (SameTurn : Type 0) → ℕ → Stage → (Before : Type 0) → Entry → Type 0
+OwesStood SameTurn slot (Flushing stripe) Before e = Before
+OwesStood SameTurn slot (Sizes work) Before e = SameTurn × IsQueuedFor slot e
+OwesStood SameTurn slot _ Before e = Unit {0}
 
 abbrev pub OwesQueued : Option ℕ → (Before : Type 0) → Type 0
 OwesQueued None Before = Before
@@ -297,7 +315,7 @@ Owes (l ∷ past) at e =
       | Begin slot running ↦ OwesBegun (l.at ≡ at) slot running.stage running.call e
       | Pins name ↦ (l.at ≡ at) × Owes past at e
       | Unpins name ↦ Owes past at e
-      | Stands slot running ↦ OwesStood running.stage (Owes past at e)
+      | Stands slot running ↦ OwesStood (l.at ≡ at) slot running.stage (Owes past at e) e
       | WritesBack resource change ↦ Owes past at e
       | Queues t q ↦ OwesQueued q.slot (Owes past at e)
       | Changes resource change ↦ (l.at ≡ at) × IsChanging e

@@ -1,17 +1,19 @@
 -- What a client still has to mark of the answer that it heard last: a write-back or a cut that was answered, and the bytes of a page. The
--- marks come in the turn that heard it, one after another.
-use Rattle.std.proofs.Common.{◌≡◌, ℕ, List, [], ◌∷◌}
+-- marks come in the turn that heard it, one after another. Before them the locks are shown that came with it, and what it told of names.
+use Rattle.std.proofs.Common.{◌≡◌, ℕ, List, [], ◌∷◌, ◌++◌}
 use Rattle.std.specs.Prelude.{if◌then◌else◌}
 use Rattle.lu_msg.specs.declared.answers.Answer.{Answer}
 use Rattle.lu_msg.specs.declared.answers.Answer.TheVariants as answer
+use Rattle.lu_msg.specs.declared.messages.Reply.{Reply as ReplyTo}
 use Rattle.lu_msg.specs.declared.operations.Op.{Op}
 use Rattle.lu_msg.specs.declared.operations.Op.TheVariants as op
 use Rattle.lu_held.specs.declared.locks.HeldLock.{HeldLock}
 use Rattle.lu_held.specs.Locks.{named}
 use Rattle.lu_words.specs.declared.changes.Flush.TheVariants.{Cut, Put}
-use Rattle.lu_words.specs.Words.{Entry, Heard, Acks, Fills, Zeroes, Grown, Shows, Line, is_client}
-use Rattle.lu_client_rows.specs.Caches.{held_at}
-use Rattle.lu_client_rows.specs.Messages.{held_as, page_heard}
+use Rattle.lu_words.specs.Carried.{Flight}
+use Rattle.lu_words.specs.Words.{Entry, Heard, Hold, Learns, Acks, Fills, Zeroes, Grown, Shows, Line, is_client}
+use Rattle.lu_client_rows.specs.Caches.{brought, held_at}
+use Rattle.lu_client_rows.specs.Messages.{size_with, holds, learns, held_as, page_heard}
 
 -- by the operation that was answered, and the locks that are held
 abbrev pub heeds_marks : ℕ → Op → Answer → List HeldLock → List Entry
@@ -41,3 +43,25 @@ marks_of c (l ∷ past) =
 -- it is the next of them
 abbrev pub MarkNext : List Line → ℕ → Entry → Type 0
 MarkNext past c e = (more : List Entry) × (marks_of c past ≡ e ∷ more)
+
+-- ---- all lines that a heard answer makes but those of calls
+
+-- the locks that came with it, what it told of names, and what is to be marked of it
+abbrev pub owes : ℕ → Flight → ReplyTo → List HeldLock → List Entry
+owes t f r held = (holds t (size_with r.answer) r.seen (brought f.op r) ++ learns t f.op r.answer r.locks) ++ heeds_marks t f.op r.answer held
+
+-- what is left of them
+abbrev pub owed_of : ℕ → List Line → List Entry
+owed_of c [] = []
+owed_of c (l ∷ past) =
+    elim l.entry [
+      | Heard t f r ↦ if is_client c l.at.node then owes t f r (held_at c past) else owed_of c past
+      | Hold t lock marked size seen ↦ if is_client c l.at.node then marks_left (owed_of c past) else owed_of c past
+      | Learns t o a locks ↦ if is_client c l.at.node then marks_left (owed_of c past) else owed_of c past
+      | Acks resource ↦ if is_client c l.at.node then marks_left (owed_of c past) else owed_of c past
+      | Fills resource offset bytes ↦ if is_client c l.at.node then marks_left (owed_of c past) else owed_of c past
+      | Zeroes resource size ↦ if is_client c l.at.node then marks_left (owed_of c past) else owed_of c past
+      | Grown resource change ↦ if is_client c l.at.node then marks_left (owed_of c past) else owed_of c past
+      | Shows resource cookie last ↦ if is_client c l.at.node then marks_left (owed_of c past) else owed_of c past
+      | _ ↦ owed_of c past
+    ]

@@ -19,6 +19,8 @@ pub mod Covers
 pub mod ClientLocks
 pub mod Held
 pub mod PinsFit
+pub mod Heeds
+pub mod Speaks
 pub mod PinsCount
 pub mod LockLists
 pub mod LifeLists
@@ -101,3 +103,5 @@ pub mod PinsRows
 pub mod PinsSlots
 pub mod ClientReady
 pub mod Obey
+pub mod HeedRuns
+pub mod SpeakRuns

@@ -183,6 +183,7 @@ pub record SizedOk (osts : ℕ) (past : List Line) (at : At) (d : Deed) : Type 0
   pub unasked : Unasked (server_of osts past).glimpses request
   pub resource : Resource
   pub of_op : request.op ≡ op.Size resource
+  pub shown : shown_of past ≡ (server_of osts past).granted
   pub past_locks : GoesPast (highest (locks_on resource (server_of osts past).granted)) (size_at (server_of osts past) resource)
   pub is : d ≡ told_on (server_of osts past) at request none [] (told.Size (size_at (server_of osts past) resource))
 

@@ -18,7 +18,7 @@ use Rattle.lu_words.specs.declared.uses.Using.{Using}
 use Rattle.lu_words.specs.Carried.{Asking, Asked, Answered, Work, Stage, Plain, Bad, Looks, Waits, Forgotten, Enqueued, Gets, Flushing, Sizes, Running}
 use Rattle.lu_words.specs.Words.{Entry, Begin, Queues, Heard, Told, Stands, Line, line, with_turn, is_client}
 use Rattle.lu_words.specs.Fields.{on}
-use Rattle.lu_client_rows.specs.Advances.{at_stage}
+use Rattle.lu_client_rows.specs.Advances.{at_stage, name_under}
 use Rattle.lu_client_rows.specs.Caches.{held_at, patches_at}
 use Rattle.lu_client_rows.specs.Calls.{asks, asks_for, reads_call, call_after, call_on}
 use Rattle.lu_client_rows.specs.Patches.{Patch}
@@ -33,7 +33,7 @@ use Rattle.lu_guards.proofs.Guards.{In, Took, Begins, HadUsed, used_in, UsesHeld
 use Rattle.lu_guards.proofs.Grown.{Grown}
 use Rattle.lu_guards.proofs.Lists.{turn, turn_more}
 use Rattle.lu_guards.proofs.Turns.{Settled, owes_nothing}
-use Rattle.lu_guards.proofs.Calls.{had_all}
+use Rattle.lu_guards.proofs.Calls.{had_all, mine_all}
 use Rattle.lu_guards.proofs.CallStands.{Works, Waiting, Forgetting, Looking, Resting, Idle, Calm, idle_still, still_calm}
 use Rattle.lu_guards.proofs.ClientHandles.{count_more}
 use Rattle.lu_guards.proofs.ClientGood.{Good, Rested, Calmed, the_head, adds, call_line}
@@ -230,6 +230,9 @@ module _ (head : table.Head) (c : ℕ) (stamp : Stamp) where
   pub uses_before : (p : List Line) (r : Running) (stage : Stage) → used_in stage ≡ used_in r.stage → UsesHeld c p r (used_in stage)
   uses_before p r stage same u i = inl (subst (λ (us : List Using). In u us) same i)
 
+  pub mine_before : (p : List Line) (slot : ℕ) (r : Running) (stage : Stage) → Good head c at p → call_at c slot p ≡ Some r → used_in stage ≡ used_in r.stage → (u : Using) → In u (used_in stage) → In (name_under u.want u.lock) r.pins
+  mine_before p slot r stage g call same u i = mine_all (the_head head c stamp) p g.grown c slot r call u (subst (λ (us : List Using). In u us) same i)
+
   -- what it wants is on object storage targets
   pub wants_on : (p : List Line) (slot : ℕ) (r : Running) → Good head c at p → call_at c slot p ≡ Some r → IsOnObjects r.stage
   wants_on p slot r g call = subst OnStage call (stage_on (the_head head c stamp) c slot p g.grown g.covered)
@@ -280,6 +283,7 @@ module _ (head : table.Head) (c : ℕ) (stamp : Stamp) where
             how = inr (inr (inr (inr (inr (refl, inr (inr (inr (inl (record { work = w; target = target; lock = l; marked = marked; before = stage; took = (boot, subst (λ (u : ℕ). Took p at (Target u) Up) (sym there) took); is = refl })))))))));
             had = had_before p slot r (Forgotten w) g call same;
             uses = uses_before p r (Forgotten w) same;
+            mine = mine_before p slot r (Forgotten w) g call same;
           }) (subst IsOnObjects stage (wants_on p slot r g call)).1 tt (inl (inr (inr (inr (inr (inl forgotten))))));
           beside = beside_stands slot (at_stage r (Forgotten w)) before p f.beside;
         }
@@ -347,6 +351,7 @@ module _ (head : table.Head) (c : ℕ) (stamp : Stamp) where
           how = inr (inr (inr (inr (inr (refl, inr (inr (inr (inr (record { work = w; is = refl; from = inl (stage, (t, who, boot, committed, took, there)) })))))))));
           had = had_before p slot r (Looks w) h.good call same;
           uses = uses_before p r (Looks w) same;
+          mine = mine_before p slot r (Looks w) h.good call same;
         }) (subst IsOnObjects stage (wants_on p slot r h.good call)) tt (inr (inr looks))
       where
         x : Forgetting r

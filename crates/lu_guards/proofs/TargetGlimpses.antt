@@ -184,7 +184,7 @@ module _ (head : Head) (stamp : Stamp) (t : ℕ) (above : 0 < t) where
         (sym (ap (λ (k : ℕ). answered v there r (told.Size k)) (size_same head.osts t v serving h.alike resource) ∙ answered_same head.osts t v serving h.alike there r (told.Size (size_at serving resource)))) (
         let d : Deed = told_on serving there r none [] (told.Size (size_at serving resource)) in
         deed_lead head stamp t past story v (Act d) d of_target h tt
-        (owes_nothing past there (Act d) settled, inr (above, entered d refl refl), inr (above, record { serves = serving_is head t v story h; request = r; waits = waits; unasked = unasked; resource = resource; of_op = of_op; past_locks = goes; is = refl }))
+        (owes_nothing past there (Act d) settled, inr (above, entered d refl refl), inr (above, record { serves = serving_is head t v story h; request = r; waits = waits; unasked = unasked; resource = resource; of_op = of_op; shown = h.shown; past_locks = goes; is = refl }))
         (refl, refl) refl refl (λ x did. sym did) tt refl (slot_answered d (slot_of r.who r.tag story)) (serving_is head t v story h) refl
         )
 

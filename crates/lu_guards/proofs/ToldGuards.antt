@@ -33,7 +33,7 @@ use Rattle.lu_client_rows.specs.WriteBack.{is_clean}
 use Rattle.lu_covered.specs.Calls.{begun, call_at, becomes, told_as, life_at}
 use Rattle.lu_covered.specs.Known.{notes_at, known_answer}
 use Rattle.lu_guards.proofs.Heard.{In, Was, JustHeard, Learned, Noticed}
-use Rattle.lu_guards.proofs.CallGuards.{IsFlush, ReadsOn, ChangesOn, wanted_by, pieces_of, HasSizes, StatOf, HadLock, UsesHeld}
+use Rattle.lu_guards.proofs.CallGuards.{IsFlush, ReadsOn, ChangesOn, wanted_by, pieces_of, NotChanging, HasSizes, StatOf, HadLock, UsesHeld}
 
 -- ---- a call is told
 
@@ -136,6 +136,7 @@ pub record StatToldOk (past : List Line) (at : At) (c slot : ℕ) (turn : At) (t
 pub record MadeNow (past : List Line) (at : At) (work : Work) : Type 0 where
   pub before : List Line
   pub is : past ≡ with_turn at (pieces_of work.layout work.kind work.used) before
+  pub fresh : NotChanging before
 
 -- of a call that changes bytes, once it has made its changes, under locks in use. It acts in this turn
 pub record WroteOk (past : List Line) (at : At) (c slot : ℕ) (turn : At) (told : Answer) (work : Option Work) : Type 0 where
@@ -272,15 +273,17 @@ OwesBegun SameTurn slot stage (call.Flush h) e = Unit {0}
 OwesBegun SameTurn slot stage (call.Glimpse h) e = Unit {0}
 OwesBegun SameTurn slot stage c e = SameTurn × (Starts slot stage e ⊎ OfFlush e)
 
--- a call that makes its changes goes on until it is told; what a page brought is filled in
+-- a call that makes its changes goes on until it is told that they are done; what a page brought is filled in
 abbrev pub IsChanging : Entry → Type 0
 IsChanging (Changes resource change) = Unit {0}
 IsChanging (Shows resource cookie last) = Unit {0}
-IsChanging (Told slot turn answer work) = Unit {0}
+IsChanging (Told slot turn told (Some work)) = told ≡ answer.Done
+IsChanging (Told slot turn told None) = ⊥
 IsChanging _ = ⊥
 
 abbrev pub IsShowing : Entry → Type 0
 IsShowing (Changes resource change) = Unit {0}
-IsShowing (Told slot turn answer work) = Unit {0}
+IsShowing (Told slot turn told (Some work)) = told ≡ answer.Done
+IsShowing (Told slot turn told None) = ⊥
 IsShowing (Fills resource offset bytes) = Unit {0}
 IsShowing _ = ⊥

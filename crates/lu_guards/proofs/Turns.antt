@@ -10,7 +10,7 @@ use Rattle.lu_base.specs.declared.ids.Stamp.{Stamp}
 use Rattle.lu_base.specs.declared.ids.Who.{Who}
 use Rattle.lu_msg.specs.declared.calls.Call.{Call}
 use Rattle.lu_msg.specs.declared.calls.Call.TheVariants as call
-use Rattle.lu_words.specs.Carried.{Stage, Bad, Flushing}
+use Rattle.lu_words.specs.Carried.{Stage, Bad, Flushing, Sizes}
 use Rattle.lu_words.specs.Words.{Entry, Take, Begin, Stands, Queues, Pins, Unpins, Changes, WritesBack, Shows, Act, Txn, Wait, Answers, Grant, Close, Back, Stores, Brings, Says, Wishes, Line, line, with_turn, turn_before}
 use Rattle.lu_words.specs.Concerns.{is_about, concerns, only, about}
 use Rattle.lu_table.specs.Runs.{Turn, lines_of, Follows, IsRun}
@@ -40,6 +40,12 @@ BeginQuiet stage (call.Flush h) = Unit {0}
 BeginQuiet stage (call.Glimpse h) = Unit {0}
 BeginQuiet stage c = ⊥
 
+-- a glimpse that is to ask how long an object is has something owed
+abbrev pub StoodQuiet : Stage → (before : Type 0) → Type 0
+StoodQuiet (Flushing stripe) before = before
+StoodQuiet (Sizes work) before = ⊥
+StoodQuiet _ before = Unit {0}
+
 -- before: nothing was owed before the entry
 abbrev pub Quiet : (before : Type 0) → Entry → Type 0
 Quiet before (Act d) = ⊥
@@ -50,7 +56,7 @@ Quiet before (Grant lock asked) = ⊥
 Quiet before (Begin slot running) = BeginQuiet running.stage running.call
 Quiet before (Pins name) = ⊥
 Quiet before (Unpins name) = before
-Quiet before (Stands slot running) = OwesStood running.stage before
+Quiet before (Stands slot running) = StoodQuiet running.stage before
 Quiet before (WritesBack resource change) = before
 Quiet before (Queues t q) = OwesQueued q.slot before
 Quiet before (Changes resource change) = ⊥
@@ -74,9 +80,10 @@ owes_nothing (l ∷ past) at e s = by l.entry s (owes_nothing past at e)
     begun slot stage (call.Glimpse h) q = tt
     begun slot stage c q = absurd q
 
-    stood : (stage : Stage) → OwesStood stage (Settled past) → (Settled past → Owes past at e) → OwesStood stage (Owes past at e)
-    stood (Flushing stripe) q more = more q
-    stood stage q more = tt
+    stood : (slot : ℕ) (stage : Stage) → StoodQuiet stage (Settled past) → (Settled past → Owes past at e) → OwesStood (l.at ≡ at) slot stage (Owes past at e) e
+    stood slot (Flushing stripe) q more = more q
+    stood slot (Sizes work) q more = absurd q
+    stood slot stage q more = tt
 
     queued : (slot : Option ℕ) → OwesQueued slot (Settled past) → (Settled past → Owes past at e) → OwesQueued slot (Owes past at e)
     queued None q more = more q
@@ -91,7 +98,7 @@ owes_nothing (l ∷ past) at e s = by l.entry s (owes_nothing past at e)
     by (Begin slot running) q more = begun slot running.stage running.call q
     by (Pins name) q more = absurd q
     by (Unpins name) q more = more q
-    by (Stands slot running) q more = stood running.stage q more
+    by (Stands slot running) q more = stood slot running.stage q more
     by (WritesBack resource change) q more = more q
     by (Queues t r) q more = queued r.slot q more
     by (Changes resource change) q more = absurd q
