@@ -2,7 +2,7 @@
 -- `flush` and `glimpse`, messages come or are lost, time goes on, clients die, and targets are given all commands: they commit, all of it or
 -- some, crash, boot, recover and close their windows, when they are told to or once every life is back. No call changes bytes, so each object
 -- that a `read` or a `glimpse` asks for is empty, and so is each file that a `stat` finds. Whoever doesn't give back a lock in time, or doesn't
--- come back in a window, is evicted, and joins in a new life. Of the others four laws are proved, and they need no premise but the limits.
+-- come back in a window, is evicted, and joins in a new life. Of the others six laws are proved, and they need no premise but the limits.
 use Rattle.std.specs.Prelude.{◌<◌, ◌+◌, ℕ, zero, List, [], ◌∷◌, All, ◌⊎◌}
 use Rattle.lu_base.specs.declared.ids.Node.TheVariants.{Target}
 use Rattle.lu_scene.specs.declared.scene.Scene.{Scene}

@@ -8,12 +8,12 @@ ghost use Rattle.lu_table.specs.Runs.{has_failed, IsRun};
 ghost use Rattle.lu_table.specs.Scenarios.{Config, Disks, start_fails, Leads, start, head_of, past_of};
 ghost use Rattle.lu_table.specs.Limits.{KeepsLimits};
 ghost use Rattle.lu_covered.specs.Covered.{AllCovered, AllBare};
-ghost use Rattle.lu_lawful.specs.FourLaws.{FourLaws};
+ghost use Rattle.lu_lawful.specs.SixLaws.{SixLaws};
 ghost use Rattle.lu_lawful.specs.Lawful.{Lawful};
 ghost use Rattle.lu_covered_scenes.specs.Covered.{IsCovered, AsksNoDisk};
 
 /// Whatever a scenario comes to, where no call to a disk has failed, is a covered run of the whole table, so its trace keeps
-/// four laws: of messages, locks, acts and recovery, also where targets crash, boot, recover and close their windows. Where
+/// all laws but that of silent repeats, also where targets crash, boot, recover and close their windows. Where
 /// no call of it changes bytes its trace is lawful, by all laws. And where beside that no line gives a command to a target
 /// and the lines show that no client is evicted no call has failed, unless one at a target's start: its turns make no other.
 pub fn scenes_are_lawful()
@@ -23,7 +23,7 @@ pub fn scenes_are_lawful()
         → Leads head disks (start head disks scene) c → has_failed (past_of c) ≡ false → AllCovered (past_of c) }
     ensures keeps { (scene : Scene) → KeepsLimits scene → let head = head_of scene.head in (disks : Disks) (c : Config)
         → Leads head disks (start head disks scene) c → has_failed (past_of c) ≡ false
-        → FourLaws scene.head.osts (printed (past_of c)) }
+        → SixLaws scene.head.osts (printed (past_of c)) }
     ensures bare { (scene : Scene) → IsCovered scene → let head = head_of scene.head in (disks : Disks) (c : Config)
         → Leads head disks (start head disks scene) c → has_failed (past_of c) ≡ false → AllBare (past_of c) }
     ensures lawful { (scene : Scene) → IsCovered scene → let head = head_of scene.head in (disks : Disks) (c : Config)

@@ -1,3 +1,3 @@
 pub mod Scenes
 pub use Rattle.lu_covered_scenes.specs.Covered
-pub use Rattle.lu_covered_scenes.specs.FourLaws
+pub use Rattle.lu_covered_scenes.specs.SixLaws

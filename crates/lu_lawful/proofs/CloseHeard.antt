@@ -53,7 +53,7 @@ untaken head (l ∷ past) at g later = by l.entry (untaken head past at g.1 (lat
     by _ h = h
 
 -- it takes one message
-takes_one : (head : Head) (past : List Line) (at : At) (from : Node) (m : Message) → Grown head past → TookNow past at from m → taken (printed past) at ≡ record { from = from; to = at.node; message = m } ∷ []
+pub takes_one : (head : Head) (past : List Line) (at : At) (from : Node) (m : Message) → Grown head past → TookNow past at from m → taken (printed past) at ≡ record { from = from; to = at.node; message = m } ∷ []
 takes_one head [] at from m g t = absurd t
 takes_one head (l ∷ past) at from m g t = by l.entry g.0 t
   where

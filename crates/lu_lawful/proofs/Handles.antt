@@ -365,7 +365,7 @@ opens_same h (Some r) = by r.call
     by _ = refl
 
 module _ (head : Head) (c : ℕ) (past : List Line) (g : Grown head past) (at : At) (closes : Closes past at) (later : Later past at) where
-  bound_is : (h : ℕ) → calls.bound_to c (printed past) h ≡ as_bound (file_at c h past)
+  pub bound_is : (h : ℕ) → calls.bound_to c (printed past) h ≡ as_bound (file_at c h past)
   bound_is h = ap (λ (v : Who). binding v h (printed past)) (present_is head c past g)
       ∙ ⊎_elim (λ (e : Ending past c). absurd (later_ends past at c closes later e)) (λ (e : binding (life_at c past) h (printed past) ≡ as_bound (file_at c h past)). e) (tied head c h past g)
 

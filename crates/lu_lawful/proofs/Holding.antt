@@ -55,7 +55,7 @@ pub record IsHeard (past : List Line) (c t : ℕ) (f : Flight) (r : ReplyTo) : T
   pub who : r.who ≡ life_at c past
   pub of_op : f.op ≡ deed.op
 
-reply_is_heard : (head : Head) (past : List Line) (stamp : Stamp) (c t : ℕ) (f : Flight) (r : ReplyTo) → Allowed head past (turn stamp (Client c)) (Heard t f r) → Grown head past → IsHeard past c t f r
+pub reply_is_heard : (head : Head) (past : List Line) (stamp : Stamp) (c t : ℕ) (f : Flight) (r : ReplyTo) → Allowed head past (turn stamp (Client c)) (Heard t f r) → Grown head past → IsHeard past c t f r
 reply_is_heard head past stamp c t f r a g =
     let ok = a.of t (self t) in
     let h = (holds head past g).at t in

@@ -26,7 +26,7 @@ use Rattle.lu_lawful.proofs.ToldLaw.{Lasting}
 
 module _ (out : Who → Bool) (t : ℕ) (who : Who) (stays : out who ≡ false) where
   -- wasn't evicted by the laws
-  kept_in : (past : List Line) → EvictedOut out past → is_evicted t (printed past) who ≡ true → ⊥
+  pub kept_in : (past : List Line) → EvictedOut out past → is_evicted t (printed past) who ≡ true → ⊥
   kept_in [] k e = absurd (cc)
   kept_in (l ∷ past) k e = by l.entry k e (kept_in past)
     where

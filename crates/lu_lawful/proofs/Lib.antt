@@ -5,7 +5,6 @@ pub mod Printed
 pub mod MessagesLaw
 pub mod Facts
 pub mod Deeds
-pub mod Sized
 pub mod Handed
 pub mod Taking
 pub mod CloseLines
@@ -39,13 +38,23 @@ pub mod Notices
 pub mod ActsLaw
 pub mod Handles
 pub mod BadCalls
-pub mod Tells
 pub mod ToldLaw
 pub mod Lasting
-pub mod AllTold
-pub mod ToldItems
+pub mod MachineBytes
+pub mod OpenedFiles
+pub mod Telling
+pub mod HistoryNames
+pub mod MachineLayouts
+pub mod Untold
+pub mod Blocks
+pub mod StoryHistory
+pub mod Agrees
+pub mod FileReads
+pub mod HistoryReads
+pub mod PiecesLaw
 pub mod HistoryLaw
 pub mod Fitting
+pub mod FitsNow
 pub mod Grows
 pub mod Given
 pub mod Granted
@@ -70,6 +79,16 @@ pub mod SilentReady
 pub mod SilentServed
 pub mod SilentStats
 pub mod SilentLaw
+pub mod LifeNumbers
+pub mod GlimpseCuts
+pub mod GlimpseLocks
+pub mod GlimpseLost
+pub mod GlimpseStory
+pub mod GlimpseAsks
+pub mod GlimpseRun
+pub mod GlimpseTold
+pub mod GlimpseWants
+pub mod GlimpseSizes
 pub mod GlimpseLaw
 pub mod PinsEvents
 pub mod Pins
@@ -131,3 +150,7 @@ pub use Rattle.lu_guards.proofs.TargetStory
 pub use Rattle.lu_guards.proofs.Has
 pub use Rattle.lu_guards.proofs.Given as GuardGiven
 pub use Rattle.lu_facts.proofs.LockLists as FactLockLists
+pub mod BytesKept
+pub mod PieceBytes
+pub mod PieceLayouts
+pub mod PieceTold

@@ -34,7 +34,7 @@ use Rattle.lu_laws.specs.Words.Calls.{open_call}
 use Rattle.lu_laws.specs.Words.Calls as calls
 use Rattle.lu_laws.specs.Words.Requests.{is_of, first_request}
 use Rattle.lu_laws.proofs.Tests.{target_is}
-use Rattle.lu_guards.proofs.Guards.{In, Was, Took, ReadsOn, ChangesOn, SizesSoFar, SizesStand, LockStand, StatStand, GetStand, FlushStand, LockGranted, MovedStand, StandsOk, TellsOk, EntryOk}
+use Rattle.lu_guards.proofs.Guards.{In, Was, Took, ReadsOn, ChangesOn, SizesSoFar, SizesStand, LockStand, StatStand, GetStand, FlushStand, LockGranted, LockBrought, MovedStand, StandsOk, TellsOk, EntryOk}
 use Rattle.lu_guards.proofs.Calls.{stands_good as good_then}
 use Rattle.lu_guards.proofs.Grown.{Allowed, Grown}
 use Rattle.lu_guards.proofs.Lists.{self, life_is, who}
@@ -270,7 +270,7 @@ far_good past at r sizes (inr (inr (inr p))) bad = let e : Came p.work p.lock �
 -- nor is one that a message moves
 from_good : (past : List Line) (at : At) (c : ℕ) (r : Running) (stage : Stage) → MovedStand past at c r stage → r.stage ≡ Bad → ⊥
 from_good past at c r stage (inl p) bad = ⊎_elim
-    (λ q. let e : Enqueued p.work ≡ Bad = sym q.0 ∙ bad in absurd (cc))
+    (λ (q : LockBrought past at r p.work p.lock). let e : Enqueued p.work ≡ Bad = sym q.stage ∙ bad in absurd (cc))
     (λ (q : LockGranted past at r p.work p.lock). let e : Waits p.work q.target q.waiting q.marked ≡ Bad = sym q.stage ∙ bad in absurd (cc))
     p.from
 from_good past at c r stage (inr (inl p)) bad = let e : Enqueued p.work ≡ Bad = sym p.before ∙ bad in absurd (cc)

@@ -48,7 +48,7 @@ use Rattle.lu_facts.proofs.All.{holds}
 use Rattle.lu_facts.proofs.Sides.{acted_only, first_at}
 use Rattle.lu_facts.proofs.OnNames.{IsPlain, told_so, op_is, told_as_so}
 use Rattle.lu_facts.proofs.Refused.{acted_answered}
-use Rattle.lu_facts.proofs.Known.{HeardBy, heard_by_story}
+use Rattle.lu_facts.proofs.Known.{HeardBy}
 use Rattle.lu_facts.proofs.Times.{reached_on}
 use Rattle.lu_lawful.proofs.Turns.{upto_is, same_turn_self}
 use Rattle.lu_lawful.proofs.Story.{about_it, was_to}
@@ -66,6 +66,7 @@ use Rattle.lu_facts.proofs.Lines.{acted_whole, acted_more, hears_only}
 use Rattle.lu_facts.proofs.Unheld.{heard_as_more}
 use Rattle.lu_facts.proofs.PartsStay.{in_every}
 use Rattle.lu_facts.proofs.ToldFiles.{plain_first}
+use Rattle.lu_object_ties.proofs.OpenedHandles.{just_heard_by}
 
 -- ---- what was just heard
 
@@ -152,20 +153,6 @@ untold head (l ∷ past) at r g j i = by l.at.node l.entry g.0 j i (untold head 
     by (Client d) (Told slot named given work) k j i h = absurd j
     by (Target u) (Told slot named given work) k j i h = absurd j
     by _ _ k j i h = h j i
-
--- it was heard by that client, of the metadata target
-just_heard_by : (past : List Line) (at : At) (c : ℕ) (r : ReplyTo) → JustHeard past at 0 r → at.node ≡ Client c → (f : Flight) × HeardBy (only 0 past) c f r
-just_heard_by [] at c r j n = absurd j
-just_heard_by (l ∷ past) at c r j n = by l.at.node l.entry j (λ i. just_heard_by past at c r i n)
-  where
-    by : (node : Node) (e : Entry) → JustHeard (line (turn l.at.stamp node) e ∷ past) at 0 r → (JustHeard past at 0 r → (f : Flight) × HeardBy (only 0 past) c f r)
-        → (f : Flight) × HeardBy (only 0 (line (turn l.at.stamp node) e ∷ past)) c f r
-    by (Client d) (Heard v f q) j h =
-        (f, subst (λ (b : Bool). HeardBy (if b then line (turn l.at.stamp (Client d)) (Heard v f q) ∷ only 0 past else only 0 past) c f r) (sym (about_it v j.1)) (inl (ap (λ (w : At). w.node) j.0 ∙ n, refl, j.2)))
-    by (Target u) (Heard v f q) j h = let no : Target u ≡ Client c = ap (λ (w : At). w.node) j.0 ∙ n in absurd (cc)
-    by (Client d) (Told slot named given work) j h = absurd j
-    by (Target u) (Told slot named given work) j h = absurd j
-    by node e j h = let k = h j in (k.0, heard_by_story 0 (line (turn l.at.stamp node) e) past c k.0 r k.1)
 
 -- what its life heard it heard as that life
 pub heard_story : (t : ℕ) (l : Line) (past : List Line) (who : Who) (f : Flight) (r : ReplyTo) → HeardAs (only t past) who f r → HeardAs (only t (l ∷ past)) who f r

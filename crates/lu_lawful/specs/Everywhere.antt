@@ -23,8 +23,3 @@ OfAllThatFit P =
 abbrev pub OfEveryBareRun : (ℕ → Past → Type 0) → Type 0
 OfEveryBareRun P =
     (head : Head) (turns : List Turn) → IsHead head → IsRun head turns → AllCovered (lines_of turns) → AllBare (lines_of turns) → P head.osts (printed (lines_of turns))
-
-abbrev pub OfAllBareThatFit : ((Who → Bool) → (ℕ → ℕ → Bool) → ℕ → Past → Type 0) → Type 0
-OfAllBareThatFit P =
-    (head : Head) (turns : List Turn) → IsHead head → IsRun head turns → AllCovered (lines_of turns) → AllBare (lines_of turns)
-    → (out : Who → Bool) (lost : ℕ → ℕ → Bool) → Fits head.osts out lost (lines_of turns) → P out lost head.osts (printed (lines_of turns))

@@ -1,4 +1,4 @@
 pub mod Fits
-pub mod FourLaws
+pub mod SixLaws
 pub mod Everywhere
 pub use Rattle.lu_laws.specs.Lawful

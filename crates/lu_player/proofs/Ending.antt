@@ -22,7 +22,7 @@ use Rattle.lu_table.specs.Runs.{has_failed}
 use Rattle.lu_table.specs.Scenarios.{Config, Disks, head_of, past_of, Leads, start}
 use Rattle.lu_foreseen.specs.Covered.{IsCovered}
 use Rattle.lu_foreseen.proofs.LawfulScenes.{scene_keeps, scene_lawful}
-use Rattle.lu_foreseen.specs.FourLaws.{FourLaws, KeepsFourLaws}
+use Rattle.lu_foreseen.specs.SixLaws.{SixLaws, KeepsSixLaws}
 use Rattle.lu_table.specs.Limits.{KeepsLimits}
 use Rattle.lu_steps.specs.Steps.{LeadsTo, none_failing}
 use Rattle.lu_steps.proofs.Turning.{none_leads, breaks_next}
@@ -238,12 +238,12 @@ is_lawful scene p ended failed trace is same covered none =
     (subst (λ (lines : List PrintedLine). Lawful scene.head.osts lines) (sym entries) (scene_lawful scene covered is.disks is.config is.leads (is.unfailed none)))
 
 pub is_kept : (scene : Scene) (p : PlayerState) (ended : End) (failed : Option TargetId) (trace : Trace) → KeepsLimits scene → IsEnded scene p ended failed
-    → trace ≡ record { osts = scene.head.osts; entries = p.wire.entries } → failed ≡ None → KeepsFourLaws trace
+    → trace ≡ record { osts = scene.head.osts; entries = p.wire.entries } → failed ≡ None → KeepsSixLaws trace
 is_kept scene p ended failed trace limits is same none =
     let past = past_of is.config in
     let entries : reverse p.wire.entries ≡ printed past = ap reverse is.wire.entries ∙ reverse-reverse (printed past) in
-    subst KeepsFourLaws (sym same)
-    (subst (λ (lines : List PrintedLine). FourLaws scene.head.osts lines) (sym entries) (scene_keeps scene limits is.disks is.config is.leads (is.unfailed none)))
+    subst KeepsSixLaws (sym same)
+    (subst (λ (lines : List PrintedLine). SixLaws scene.head.osts lines) (sym entries) (scene_keeps scene limits is.disks is.config is.leads (is.unfailed none)))
 
 pub some_rose : (scene : Scene) (p : PlayerState) (t : ℕ) (rest : List DiskState) → HasBroken scene t p → SomeRose scene (disks_of p.nodes ++ rest)
 some_rose scene p t rest broken = (t, broken.one, rose_longer p.nodes rest scene.head.osts t broken.count broken.one broken.rose)
@@ -287,7 +287,7 @@ module _ {D : Type 0} (view : D → DiskState) (scene : Scene) (p : PlayerState)
   ran_lawful (Err e) trace ended = tt
 
   pub ran_keeps : {E : Type 0} (result : Result Played E) → KeepsLimits scene → IfOk result (λ played. played.trace ≡ record { osts = scene.head.osts; entries = p.wire.entries })
-      → IfOk result (λ played. EndsWith came played.end played.failed) → IfOk result (λ played. played.failed ≡ None → KeepsFourLaws played.trace)
+      → IfOk result (λ played. EndsWith came played.end played.failed) → IfOk result (λ played. played.failed ≡ None → KeepsSixLaws played.trace)
   ran_keeps (Ok played) limits trace ended =
       is_kept scene p played.end played.failed played.trace limits (comes_ended scene p came played.end played.failed ran.comes ended) trace
   ran_keeps (Err e) limits trace ended = tt

@@ -6,4 +6,4 @@ pub use Rattle.lu_foreseen.specs.Covered
 pub use Rattle.lu_nodes.specs.States as Nodes
 pub use Rattle.lu_table.specs.Limits
 pub use Rattle.lu_laws.specs.Lawful
-pub use Rattle.lu_foreseen.specs.FourLaws
+pub use Rattle.lu_foreseen.specs.SixLaws

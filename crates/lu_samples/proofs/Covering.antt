@@ -13,7 +13,7 @@ use Rattle.lu_table.specs.Runs.{has_failed}
 use Rattle.lu_table.specs.Scenarios.{Config, Next, Goes, Ends, Stops, Fails, head_of, past_of, next, start, steps, Leads, here, more}
 use Rattle.lu_laws.specs.Lawful.{Lawful}
 use Rattle.lu_covered_scenes.specs.Covered.{IsCovered}
-use Rattle.lu_covered_scenes.specs.FourLaws.{FourLaws}
+use Rattle.lu_covered_scenes.specs.SixLaws.{SixLaws}
 use Rattle.lu_covered_scenes.proofs.Stated.{scene_keeps, scene_lawful}
 use Rattle.lu_table.specs.Limits.{KeepsLimits}
 use Rattle.lu_samples.proofs.Words.{with_head, after, trace_after, never}
@@ -169,6 +169,6 @@ leads scene n = leads_on scene n (start (head_of scene.head) never scene) (here 
 pub lawful : (scene : Scene) (n : ℕ) → IsCovered scene → has_failed (past_of (after n scene)) ≡ false → Lawful scene.head.osts (trace_after n scene)
 lawful scene n covered unfailed = scene_lawful scene covered never (after n scene) (leads scene n) unfailed
 
--- and whatever bytes it changes it keeps four laws
-pub keeps : (scene : Scene) (n : ℕ) → KeepsLimits scene → has_failed (past_of (after n scene)) ≡ false → FourLaws scene.head.osts (trace_after n scene)
+-- and whatever bytes it changes it keeps six laws
+pub keeps : (scene : Scene) (n : ℕ) → KeepsLimits scene → has_failed (past_of (after n scene)) ≡ false → SixLaws scene.head.osts (trace_after n scene)
 keeps scene n limits unfailed = scene_keeps scene limits never (after n scene) (leads scene n) unfailed

@@ -41,7 +41,7 @@ pub fn run_command<R: Env + AllocGlobal, S: Source, K: Sink, D: Disk + Drop>(
 ) -> Status
     requires fresh { AreFresh (held_by D.batches D.faults disks.old.items) }
     // What was written is the trace of a run of the scenario that was read, or the summary of one of the storm; and that trace
-    // keeps the laws of messages, locks, acts and recovery, and is lawful where no call of the scenario changes bytes. Or it is
+    // keeps all laws but that of silent repeats, and is lawful where no call of the scenario changes bytes. Or it is
     // that the trace which was read breaks no law.
     ensures written { result ≡ Status.Done
         → (words : List (List ℕ)) × (WroteBy words (S.left source.old) (S.left source.new)
