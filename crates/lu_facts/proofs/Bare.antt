@@ -1,7 +1,7 @@
 -- A run that changes no bytes rests on the narrow guards alone (`bare_grown`), over the whole past and over each story.
 use Rattle.std.proofs.Common.{◌≡◌, ℕ, zero, suc, ◌<◌, Bool, true, false, List, [], ◌∷◌, Option, Some, None, ◌⊎◌, inl, inr, ⊎_elim, refl, sym, subst, ap, ◌∙◌, arith}
-use Rattle.std.specs.Prelude.{if◌then◌else◌}
-use Rattle.std.proofs.lemmas.Bool.{eqb-true}
+use Rattle.std.specs.Prelude.{nat_eq, ◌&&◌, if◌then◌else◌}
+use Rattle.std.proofs.lemmas.Bool.{eqb-true, and_parts}
 use Rattle.lu_base.specs.declared.ids.At.{At}
 use Rattle.lu_base.specs.declared.ids.Node.{Node}
 use Rattle.lu_base.specs.declared.ids.Node.TheVariants.{Client, Target}
@@ -16,29 +16,64 @@ use Rattle.lu_msg.specs.declared.answers.Answer.{Answer}
 use Rattle.lu_msg.specs.declared.answers.Answer.TheVariants as answer
 use Rattle.lu_msg.specs.declared.calls.Call.{Call}
 use Rattle.lu_msg.specs.declared.calls.Call.TheVariants as call
+use Rattle.lu_msg.specs.declared.messages.GrantNotice.{GrantNotice}
+use Rattle.lu_msg.specs.declared.messages.Message.TheVariants as message
 use Rattle.lu_msg.specs.declared.messages.Reply.{Reply as ReplyTo}
+use Rattle.lu_held.specs.declared.names.LockName.{LockName}
 use Rattle.lu_msg.specs.declared.operations.Op.TheVariants as op
 use Rattle.lu_words.specs.Carried.{Deed, Flight, Called, Stage, Bad, Flushing, Work}
-use Rattle.lu_words.specs.Words.{Entry, Begin, Queues, Stands, Told, Hold, Pins, Unpins, Act, Txn, Grant, Wait, Answers as Responds, Asks, Ends, Block, Changes, WritesBack, Shows, Acks, Fills, Zeroes, Grown as Grows, Peek, Line, line}
+use Rattle.lu_words.specs.Words.{Entry, Begin, Queues, Stands, Told, Heard, Hold, Unmarks, Pins, Unpins, Act, Txn, Grant, Wait, Answers as Responds, Asks, Ends, Block, Changes, WritesBack, Shows, Acks, Fills, Zeroes, Grown as Grows, Peek, Line, line}
 use Rattle.lu_words.specs.Concerns.{concerns, only}
 use Rattle.lu_covered.specs.Covered.{ChangesNoBytes, IsBare, AllBare}
 use Rattle.lu_covered.specs.Deeds.{told_on}
 use Rattle.lu_covered.specs.Heads.{Head}
 use Rattle.lu_covered.specs.TargetStates.{none, server_of}
-use Rattle.lu_guards.proofs.Guards.{In, ChangesOn, WroteOk, TellsOk, IsFlushing, OfFlush, Starts, StartsRead, StartsStat, OwesBegun, Owes, EntryOk}
+use Rattle.lu_guards.proofs.Guards.{In, Was, HoldsOk, came_marked, ChangesOn, WroteOk, TellsOk, IsFlushing, OfFlush, Starts, StartsRead, StartsStat, OwesBegun, Owes, EntryOk}
 use Rattle.lu_guards.proofs.ClientGuards.{GivenOk}
 use Rattle.lu_guards.proofs.StoryGuards.{ActsOk, TxnsOk, GrantsOk, BlocksOk, EntryOf}
 use Rattle.lu_guards.proofs.Grown.{Allowed, Grown, GrownOf}
 use Rattle.lu_guards.proofs.Lists.{self, turn}
-use Rattle.lu_guards.proofs.Only.{grown_of}
+use Rattle.lu_guards.proofs.Only.{grown_of, was_more}
 use Rattle.lu_guards.proofs.ClientLines.{IsNames}
 use Rattle.lu_facts.proofs.Groups.{HeardAs}
 use Rattle.lu_facts.proofs.All.{holds}
 use Rattle.lu_facts.proofs.BareObjects.{IsBareOp, range_read, range_told, no_write, no_wait, no_promotion, no_question, no_answer, no_end, empty}
 use Rattle.lu_facts.proofs.BareCalls.{BareStage, BareAnswer, BareSoFar, object_answer, stands_bare}
-use Rattle.lu_facts.proofs.BareSteps.{asked, no_mark, no_changes, no_back, no_shows, no_back_ask, bare_so_far}
+use Rattle.lu_facts.proofs.BareSteps.{took_was, took_now, asked, no_mark, no_changes, no_back, no_shows, no_back_ask, bare_so_far}
 use Rattle.lu_facts.proofs.BareTold.{no_writer, begin_so, queues_so, stands_so, sizes_so, flushed_so, read_so, stat_told_so}
 use Rattle.lu_facts.proofs.BareGuards.{BareActsOk, BareGrantsOk, BareOk, BareOf, BareOwesBegun, BareOwes, BareAllowed, BareGrown, BareGrownOf, wide, all_bare}
+
+-- a lock comes marked only with a grant
+marked_given : (head : Head) (past : List Line) → Grown head past → (c : ℕ) (name : LockName) → came_marked c name past ≡ true → (t : ℕ) × (notice : GrantNotice) × Was past (Target t) (Client c) (message.Grant notice)
+marked_given head [] g c name e = absurd (cc)
+marked_given head (l ∷ past) g c name e = by l.at.node l.entry refl g.0.ok e (λ k. later (marked_given head past g.1 c name k))
+  where
+    Given : List Line → Type 0
+    Given p = (t : ℕ) × (notice : GrantNotice) × Was p (Target t) (Client c) (message.Grant notice)
+
+    later : Given past → Given (l ∷ past)
+    later k = (k.0, k.1, was_more l past (Target k.0) (Client c) (message.Grant k.1) k.2)
+
+    -- a line of the client, or another one
+    split : (b : Bool) (x : Bool) → (if b then x else came_marked c name past) ≡ true → ((b ≡ true) × (x ≡ true)) ⊎ (came_marked c name past ≡ true)
+    split true x e = inl (refl, e)
+    split false x e = inr e
+
+    took : (d t : ℕ) (lock : Lock) (marked : Bool) (size : Option ℕ) (seen : List ℕ) → nat_eq c d ≡ true → marked ≡ true → l.at.node ≡ Client d → HoldsOk past l.at t lock marked size seen ⊎ GivenOk past l.at d t lock marked size seen → Given past
+    took d t lock marked size seen own is here (inl ok) = absurd (let z : true ≡ false = sym is ∙ ok.unmarked in cc)
+    took d t lock marked size seen own is here (inr ok) =
+        (t, ok.notice, subst (λ (n : Node). Was past (Target t) n (message.Grant ok.notice)) (here ∙ ap Client (sym (eqb-true c d own))) (took_was head past l.at (Target t) (message.Grant ok.notice) g.1 (took_now past l.at (Target t) (message.Grant ok.notice) ok.took)))
+
+    by : (node : Node) (x : Entry) → l.at.node ≡ node → EntryOk past l.at node x → came_marked c name (line (turn l.at.stamp node) x ∷ past) ≡ true → (came_marked c name past ≡ true → Given (l ∷ past)) → Given (l ∷ past)
+    by (Client d) (Hold t lock marked size seen) here ok e more = ⊎_elim
+        (λ (p : ((nat_eq c d && (nat_eq t name.target.0 && nat_eq lock.cookie.0 name.cookie.0)) ≡ true) × (marked ≡ true)). later (took d t lock marked size seen (and_parts (nat_eq c d) (nat_eq t name.target.0 && nat_eq lock.cookie.0 name.cookie.0) p.0).0 p.1 here ok))
+        more (split (nat_eq c d && (nat_eq t name.target.0 && nat_eq lock.cookie.0 name.cookie.0)) marked e)
+    by (Client d) (Heard t f r) here ok e more = ⊎_elim (λ (p : ((nat_eq c d && nat_eq t name.target.0) ≡ true) × (false ≡ true)). absurd (let z = p.1 in cc)) more (split (nat_eq c d && nat_eq t name.target.0) false e)
+    by (Client d) (Unmarks t) here ok e more = ⊎_elim (λ (p : ((nat_eq c d && nat_eq t name.target.0) ≡ true) × (false ≡ true)). absurd (let z = p.1 in cc)) more (split (nat_eq c d && nat_eq t name.target.0) false e)
+    by (Target u) (Hold t lock marked size seen) here ok e more = absurd ok
+    by (Target u) (Heard t f r) here ok e more = absurd ok
+    by (Target u) (Unmarks t) here ok e more = absurd ok
+    by node x here ok e more = more e
 
 module _ (head : Head) (past : List Line) (g : Grown head past) (s : BareSoFar head past) where
   -- ---- over the whole past
@@ -81,7 +116,7 @@ module _ (head : Head) (past : List Line) (g : Grown head past) (s : BareSoFar h
   bare_ok stamp (Client c) (Hold t lock marked size seen) bare (inl ok) of = ok
   bare_ok stamp (Client c) (Hold t lock marked size seen) bare (inr ok) of = absurd (no_given (turn stamp (Client c)) c t lock marked size seen ok)
   bare_ok stamp (Client c) (Pins name) bare (inl ok) of = ok
-  bare_ok stamp (Client c) (Pins name) bare (inr ok) of = absurd (s.given (Target ok.given.0) (Client c) ok.given.1 ok.given.2)
+  bare_ok stamp (Client c) (Pins name) bare (inr ok) of = absurd (let k = marked_given head past g c name ok.marked in s.given (Target k.0) (Client c) k.1 k.2)
   bare_ok stamp (Client c) (Changes resource change) bare ok of = no_changes head past g s (turn stamp (Client c)) c resource change ok
   bare_ok stamp (Client c) (WritesBack resource change) bare ok of = no_back head past g s c resource change ok
   bare_ok stamp (Client c) (Shows resource cookie last) bare ok of = no_shows head past g s (turn stamp (Client c)) c resource cookie last ok

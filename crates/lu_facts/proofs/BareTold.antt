@@ -308,7 +308,7 @@ module _ (head : Head) (past : List Line) (now : At) (c : ℕ) (here : now.node 
             is = inl (h.is, subst (λ (us : List Use). LacksOf past c us h.work) (wants_are h.work h.stat.layout h.stat.fid (Stats h.stat.mode h.stat.links) h.of_layout h.of_fid h.kind) h.lacks);
           }
 
-      came : (ok.pins ≡ ok.running.pins) → CameStand past now ok.running ok.stage → Narrower
+      came : (ok.pins ≡ ok.running.pins) → CameStand past now c ok.running ok.stage → Narrower
       came same h = ⊎_elim
           (λ (p : LockBrought past now ok.running h.work h.lock). of (subst (BareStage ok.running) p.stage st) p.stage p.answers)
           (λ (p : LockGranted past now ok.running h.work h.lock). absurd (subst (BareStage ok.running) p.stage st))

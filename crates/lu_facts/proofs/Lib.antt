@@ -55,8 +55,6 @@ pub mod BareLooks
 pub mod BareCalls
 pub mod BareSteps
 pub mod BareGuards
-pub mod BareCases
-pub mod BareGave
 pub mod BareTold
 pub mod Bare
 pub mod All

@@ -220,14 +220,14 @@ file_as K path walk fid gid mode to links of layout laid p f m l o h =
     (subst (λ (v : ℕ). FileBy K path fid mode v laid) l
     (subst (λ (v : Raid0). FileBy K path fid mode links v) o h))))
 
-one_work : (stage : Stage) (v w : Work) → AtWork stage v → AtWork stage w → v ≡ w
+pub one_work : (stage : Stage) (v w : Work) → AtWork stage v → AtWork stage w → v ≡ w
 one_work stage v w p q = let e : Some v ≡ Some w = sym p ∙ q in cc
 
 no_work : (stage : Stage) (w : Work) → work_in stage ≡ None → AtWork stage w → ⊥
 no_work stage w none at = let e : None ≡ Some w = sym none ∙ at in cc
 
 -- a message that moves a call leaves its work as it is
-moved_work : (past : List Line) (now : At) (c : ℕ) (q : Running) (stage : Stage) → MovedStand past now c q stage → work_in stage ≡ work_in q.stage
+pub moved_work : (past : List Line) (now : At) (c : ℕ) (q : Running) (stage : Stage) → MovedStand past now c q stage → work_in stage ≡ work_in q.stage
 moved_work past now c q stage (inl h) = ap work_in h.is ∙ sym (⊎_elim
     (λ (k : LockBrought past now q h.work h.lock). ap work_in k.stage)
     (λ (k : LockGranted past now q h.work h.lock). ap work_in k.stage) h.from)

@@ -29,18 +29,20 @@ use Rattle.lu_msg.specs.declared.operations.Op.TheVariants as op
 use Rattle.lu_trace.specs.WellFormed.{IsCall}
 use Rattle.lu_held.specs.declared.locks.HeldLock.{HeldLock}
 use Rattle.lu_held.specs.declared.locks.Use.{Use}
+use Rattle.lu_held.specs.declared.locks.Wanted.TheVariants.{ServingToTheEnd}
 use Rattle.lu_held.specs.declared.names.LockName.{LockName}
 use Rattle.lu_held.specs.Held.{serving}
+use Rattle.lu_held.specs.Locks.{reaches_end, matches}
 use Rattle.lu_words.specs.declared.changes.Flush.{Flush}
 use Rattle.lu_words.specs.declared.changes.Flush.TheVariants.{Cut, Put}
 use Rattle.lu_words.specs.Carried.{HandleFile, Queued, Flight, Unasked, Asked, Answered, Kind, Narrow, Wide, Writes, Cuts, Stats, Glimpses, Work, Stage, Plain, Bad, Looks, Enqueued, Waits, Came, Forgotten, Gets, Flushing, Sizes, Running}
 use Rattle.lu_words.specs.declared.uses.Using.{Using}
-use Rattle.lu_words.specs.Words.{Entry, Begin, Take, Changes, WritesBack, Shows, Serves, Line, with_turn, is_client, same_life}
+use Rattle.lu_words.specs.Words.{Entry, Begin, Take, Heard, Hold, Unmarks, Changes, WritesBack, Shows, Serves, Pins, Unpins, Line, with_turn, is_client, same_life}
 use Rattle.lu_client_rows.specs.Advances.{name_under, writes, cuts}
 use Rattle.lu_client_rows.specs.Caches.{brought, patch_at, held_at, patches_at}
 use Rattle.lu_client_rows.specs.Imports.{Serving}
 use Rattle.lu_client_rows.specs.Known.{KnownFile, names_of, cookies_of_file}
-use Rattle.lu_client_rows.specs.Looks.{Page, missing, size_under}
+use Rattle.lu_client_rows.specs.Looks.{Page, missing, has_reached, size_under}
 use Rattle.lu_client_rows.specs.Messages.{waiting_lock, granted_as}
 use Rattle.lu_client_rows.specs.Patches.{Patch, in_flight}
 use Rattle.lu_client_rows.specs.Recovery.{is_left_at}
@@ -289,11 +291,16 @@ LockDoes u = (serves u.lock.ask.mode u.want.mode ≡ true) × (covers u.lock.ask
 abbrev pub CameFor : Running → Using → Type 0
 CameFor running u = (work : Work) × (left : List Use) × (running.stage ≡ Came work u.lock) × (work.left ≡ u.want ∷ left)
 
--- it is held now, and serves or came for what is wanted
+-- a held lock that serves to the end is used before one that doesn't reach it
+abbrev pub EndFirst : ℕ → List Line → Using → Type 0
+EndFirst c past u = (h : HeldLock) → In h (held_at c past) → matches (ServingToTheEnd u.want) h ≡ true → reaches_end u.lock.ask.policy ≡ true
+
+-- it is held now, and serves or came for what is wanted; where it didn't come it isn't called back, and reaches the end if one does
 pub record HeldFor (c : ℕ) (past : List Line) (running : Running) (u : Using) : Type 0 where
   pub locked : Locked c past u.want
   pub is : locked.holding.lock ≡ u.lock
   pub does : LockDoes u ⊎ CameFor running u
+  pub apart : ((locked.holding.marked ≡ false) × EndFirst c past u) ⊎ CameFor running u
 
 -- each lock in use was in use before, or is held now
 abbrev pub UsesHeld : ℕ → List Line → Running → List Using → Type 0
@@ -490,12 +497,33 @@ pub record LacksOf (past : List Line) (c : ℕ) (all : List Use) (work : Work) :
   pub order : InOrder all work
   pub lacks : serving wanted (held_at c past) ≡ None
 
+-- since that past locks were pinned and unpinned alone
+abbrev pub PinsSince : List Line → List Line → Type 0
+PinsSince before [] = before ≡ []
+PinsSince before (l ∷ past) = (before ≡ l ∷ past) ⊎ elim l.entry [ Pins name ↦ PinsSince before past | Unpins name ↦ PinsSince before past | _ ↦ ⊥ ]
+
+-- a narrow read of these positions had all its locks in use, missed none of its bytes, and hadn't reached
+pub record Narrowed (c : ℕ) (past : List Line) (running : Running) (work : Work) (offset count : ℕ) : Type 0 where
+  pub before : List Line
+  pub since : PinsSince before past
+  pub used : List Using
+  pub wants : wants_of work.layout work.fid (Narrow offset count) ≡ map (λ (u : Using). u.want) used
+  pub uses : UsesHeld c before running used
+  pub none : missing work.layout offset (offset + count) (store_at c before) used ≡ None
+  pub short : has_reached work.layout (offset + count - 1) used (store_at c before) ≡ false
+
+-- one to the end was one before, or just came of a narrow one
+abbrev pub Wider : ℕ → List Line → Running → Work → Type 0
+Wider c past running work =
+    (offset count : ℕ) → work.kind ≡ Wide offset count → ((old : Work) × (work_in running.stage ≡ Some old) × (old.kind ≡ Wide offset count)) ⊎ Narrowed c past running work offset count
+
 -- it asks for the lock on the next of the objects that it wants
 pub record LockStand (past : List Line) (c : ℕ) (running : Running) (stage : Stage) : Type 0 where
   pub work : Work
   pub is : stage ≡ Enqueued work
   pub does : ReadsOn running work ⊎ ChangesOn running work
   pub lacks : LacksOf past c (wanted_by work) work
+  pub wider : Wider c past running work
 
 -- with all its locks in use a read fetches the first page that is missing
 pub record GetStand (past : List Line) (c : ℕ) (running : Running) (stage : Stage) (pins : List LockName) : Type 0 where
@@ -506,6 +534,7 @@ pub record GetStand (past : List Line) (c : ℕ) (running : Running) (stage : St
   pub mine : (u : Using) → In u work.used → In (name_under u.want u.lock) pins
   pub page : Page
   pub lacks : missing work.layout does.read.offset (does.read.offset + does.read.count) (store_at c past) work.used ≡ Some page
+  pub wider : Wider c past running work
 
 -- ---- a stat of a file, of which all but the size is known
 
@@ -598,12 +627,38 @@ pub record LockBrought (past : List Line) (at : At) (running : Running) (work : 
   pub of_op : flight.op ≡ op.Enqueue wanted.resource wanted.mode extent
   pub brings : In lock (brought flight.op answers.reply)
 
--- the lock that it asked for came, with the reply or once it had waited
-pub record CameStand (past : List Line) (at : At) (running : Running) (stage : Stage) : Type 0 where
+-- whether the lock of that name came marked, and still is so by what came since: an answer of its target brings locks without marks, and once the
+-- target serves again they have none: reads Hold, Heard and Unmarks
+abbrev pub came_marked : ℕ → LockName → List Line → Bool
+came_marked c name [] = false
+came_marked c name (l ∷ past) =
+    elim l.entry [
+      | Hold t lock marked size seen ↦ if is_client c l.at.node && (t == name.target.0 && lock.cookie.0 == name.cookie.0) then marked else came_marked c name past
+      | Heard t flight reply ↦ if is_client c l.at.node && t == name.target.0 then false else came_marked c name past
+      | Unmarks t ↦ if is_client c l.at.node && t == name.target.0 then false else came_marked c name past
+      | _ ↦ came_marked c name past
+    ]
+
+-- how the lock came: without a mark with a reply, or as the call stood that waited for it
+abbrev pub came_as : {past : List Line} {at : At} {running : Running} {work : Work} {lock : Lock} → LockBrought past at running work lock ⊎ LockGranted past at running work lock → Bool
+came_as (inl brought) = false
+came_as (inr granted) = granted.marked
+
+-- the lock that it asked for came, with the reply or once it had waited: it is held, with the mark with which it came
+pub record CameStand (past : List Line) (at : At) (c : ℕ) (running : Running) (stage : Stage) : Type 0 where
   pub work : Work
   pub lock : Lock
   pub is : stage ≡ Came work lock
   pub from : LockBrought past at running work lock ⊎ LockGranted past at running work lock
+  pub wanted : Use
+  pub left : List Use
+  pub first : work.left ≡ wanted ∷ left
+  pub holding : HeldLock
+  pub held : In holding (held_at c past)
+  pub same : holding.lock ≡ lock
+  pub of_target : holding.target.0 ≡ wanted.target.0
+  pub holds : holding.marked ≡ came_marked c (name_under wanted lock) past
+  pub flag : came_marked c (name_under wanted lock) past ≡ came_as from
 
 -- it is told to wait for it: in the newest line it heard so
 pub record WaitStand (past : List Line) (at : At) (c : ℕ) (running : Running) (stage : Stage) : Type 0 where
@@ -652,7 +707,7 @@ pub record LookStand (past : List Line) (at : At) (running : Running) (stage : S
 
 abbrev pub MovedStand : List Line → At → ℕ → Running → Stage → Type 0
 MovedStand past at c running stage =
-    CameStand past at running stage ⊎ WaitStand past at c running stage ⊎ MarkStand past at running stage ⊎ ForgotStand past at running stage ⊎ LookStand past at running stage
+    CameStand past at c running stage ⊎ WaitStand past at c running stage ⊎ MarkStand past at running stage ⊎ ForgotStand past at running stage ⊎ LookStand past at running stage
 
 -- ---- a flush goes on
 

@@ -24,7 +24,7 @@ use Rattle.lu_client_rows.specs.Starts.{count_on}
 use Rattle.lu_client_rows.specs.Stripes.{stripes, object}
 use Rattle.lu_client_rows.specs.Wants.{wants_of}
 use Rattle.lu_covered.specs.Calls.{call_at, calls_at, life_at, becomes}
-use Rattle.lu_guards.proofs.Guards.{HasRange, In, IsGlimpse, IsFlush, ReadsOn, ChangesOn, InOrder, wanted_by, HasChange, WasGiven}
+use Rattle.lu_guards.proofs.Guards.{HasRange, In, IsGlimpse, IsFlush, ReadsOn, ChangesOn, InOrder, wanted_by, HasChange, came_marked}
 
 -- ---- the work of a call on bytes
 
@@ -260,7 +260,7 @@ still_calm who patches (Some r) (inr w) = inr (inl w)
 
 -- ---- a lock came
 
--- a call to which the lock came that it asked for: it is held, and isn't marked where it came with the reply
+-- a call to which the lock came that it asked for: it is held, and isn't marked but where it came so
 pub record Coming (c : ℕ) (p : List Line) (r : Running) : Type 0 where
   pub work : Work
   pub lock : Lock
@@ -274,7 +274,7 @@ pub record Coming (c : ℕ) (p : List Line) (r : Running) : Type 0 where
   pub is : holding.lock ≡ lock
   pub of_object : lock.resource ≡ wanting.wanted.resource
   pub ranged : HasRange lock.ask.policy
-  pub how : (holding.marked ≡ false) ⊎ WasGiven c p
+  pub how : (holding.marked ≡ false) ⊎ (came_marked c (name_under wanting.wanted lock) p ≡ true)
 
 -- ---- changes that last
 

@@ -19,7 +19,7 @@ use Rattle.lu_words.specs.Carried.{Stage, Waits, Came, Running}
 use Rattle.lu_words.specs.Words.{Entry, Take, Hold, Settles, Stands, Line, line, with_turn, same_life}
 use Rattle.lu_words.specs.Concerns.{only}
 use Rattle.lu_words.specs.Sent.{Sent}
-use Rattle.lu_client_rows.specs.Advances.{at_stage}
+use Rattle.lu_client_rows.specs.Advances.{at_stage, name_under}
 use Rattle.lu_client_rows.specs.Caches.{held_as, held_at, patches_at}
 use Rattle.lu_client_rows.specs.Calls.{call_on, calls_at}
 use Rattle.lu_client_rows.specs.Imports.{Import, import_of}
@@ -32,7 +32,7 @@ use Rattle.lu_covered.specs.Covered.{IsOnObjects}
 use Rattle.lu_covered.specs.Imports.{known_at}
 use Rattle.lu_table.specs.Heads as table
 use Rattle.lu_table.specs.Runs.{client_of}
-use Rattle.lu_guards.proofs.Guards.{In, Was, HeardAs, Took, HadUsed, used_in, StandsOk}
+use Rattle.lu_guards.proofs.Guards.{In, Was, HeardAs, Took, came_marked, HadUsed, used_in, StandsOk}
 use Rattle.lu_guards.proofs.StoryGuards as story_guards
 use Rattle.lu_guards.proofs.Lists.{self, life_is, turn}
 use Rattle.lu_guards.proofs.Only.{sent_was, was_only}
@@ -167,6 +167,20 @@ module _ (head : table.Head) (c : ℕ) (stamp : Stamp) where
     abbrev came : Running
     came = at_stage r (Came w.work lock)
 
+    held_there : In (held_as t lock w.marked) (held_at c p2)
+    held_there = subst (λ (hs : List HeldLock). In (held_as t lock w.marked) hs) (sym (held_line head c stamp p1 e)) (with_self (held_as t lock w.marked) (held_at c p1))
+
+    of_target : t ≡ w.wanting.wanted.target.0
+    of_target = sym there ∙ ap (λ (u : TargetId). u.0) w.of_target
+
+    -- it came with the mark that it stood with
+    mark_so : came_marked c (name_under w.wanting.wanted lock) p3 ≡ w.marked
+    mark_so = ap (λ (u : ℕ). came_marked c (named (record { 0 = u }) lock.cookie) p3) (sym of_target) ∙ rw (self c, self t, self lock.cookie.0) refl
+
+    marked_or : (b : Bool) → w.marked ≡ b → (w.marked ≡ false) ⊎ (came_marked c (name_under w.wanting.wanted lock) p3 ≡ true)
+    marked_or false e = inl e
+    marked_or true e = inr (mark_so ∙ e)
+
     came_ok : StandsOk p3 at c slot came
     came_ok =
         record {
@@ -184,6 +198,15 @@ module _ (head : table.Head) (c : ℕ) (stamp : Stamp) where
               lock = lock;
               is = refl;
               from = inr (record { target = w.target; waiting = w.lock; marked = w.marked; stage = w.stage; notice = g; took = subst (λ (u : ℕ). Took p3 at (Target u) (message.Grant g)) (sym there) (inl (refl, refl, refl)); is = refl });
+              wanted = w.wanting.wanted;
+              left = w.wanting.left;
+              first = w.wanting.first;
+              holding = held_as t lock w.marked;
+              held = held_there;
+              same = refl;
+              of_target = of_target;
+              holds = sym mark_so;
+              flag = mark_so;
             }),
           )))));
           had = subst (λ (x : Stage). HadUsed c slot p3 x) w.stage (had_all (the_head head c stamp) p3 settled_good.grown c slot r call);
@@ -196,12 +219,6 @@ module _ (head : table.Head) (c : ℕ) (stamp : Stamp) where
 
     stands : Stood head c stamp slot came p3
     stands = stood head c stamp slot came p3 settled_good tt came_ok (subst IsOnObjects w.stage objects).1
-
-    held_there : In (held_as t lock w.marked) (held_at c p2)
-    held_there = subst (λ (hs : List HeldLock). In (held_as t lock w.marked) hs) (sym (held_line head c stamp p1 e)) (with_self (held_as t lock w.marked) (held_at c p1))
-
-    of_target : t ≡ w.wanting.wanted.target.0
-    of_target = sym there ∙ ap (λ (u : TargetId). u.0) w.of_target
 
     abbrev lines : List Entry
     lines = on_running (lock_granted t g) slot (Some r)
@@ -235,7 +252,7 @@ module _ (head : table.Head) (c : ℕ) (stamp : Stamp) where
               is = refl;
               of_object = ap (λ (l : Lock). l.resource) w.of_lock;
               ranged = tt;
-              how = inr (t, g, was_sent);
+              how = marked_or w.marked refl;
             };
           };
         })))))

@@ -16,6 +16,7 @@ use Rattle.lu_msg.specs.declared.messages.Reply.{Reply as ReplyTo}
 use Rattle.lu_msg.specs.declared.operations.Op.{Op}
 use Rattle.lu_msg.specs.declared.operations.Op.TheVariants as op
 use Rattle.lu_held.specs.declared.locks.HeldLock.{HeldLock}
+use Rattle.lu_held.specs.Locks.{named}
 use Rattle.lu_machine.specs.Fits.{answer_fits}
 use Rattle.lu_words.specs.Carried.{Flight, Answered}
 use Rattle.lu_words.specs.Words.{Entry, Take, Heard, Hold, Learns, Line, line, with_turn}
@@ -28,7 +29,7 @@ use Rattle.lu_covered.specs.Calls.{asks_for, call_at, life_at}
 use Rattle.lu_covered.specs.Imports.{flights_at}
 use Rattle.lu_table.specs.Heads as table
 use Rattle.lu_guards.proofs.HeedMarks.{heeds_marks, marks_left, owes, owed_of}
-use Rattle.lu_guards.proofs.Guards.{In, Was, HeardNow, JustHeard, Learned, marks_of}
+use Rattle.lu_guards.proofs.Guards.{In, Was, HeardNow, JustHeard, Learned, came_marked, marks_of}
 use Rattle.lu_guards.proofs.StoryGuards as story_guards
 use Rattle.lu_guards.proofs.Lists.{self, turn, turn_more}
 use Rattle.lu_guards.proofs.Only.{sent_was, was_only, told_by_target, grown_of}
@@ -286,6 +287,12 @@ module _ (head : table.Head) (c : ℕ) (stamp : Stamp) where
         shown =
             subst (λ (ls : List Lock). In (held_as t lock false) (held_at c (with_turn at (holds t (size_with r.answer) r.seen ls) p2))) (sym e)
             (subst (λ (hs : List HeldLock). In (held_as t lock false) hs) (sym (held_so t r lock p2)) (with_self (held_as t lock false) (held_at c p2)))
+
+    -- and without a mark
+    pub one_unmarked : 0 < t → (lock : Lock) → locks ≡ lock ∷ [] → came_marked c (named (record { 0 = t }) lock.cookie) p4 ≡ false
+    one_unmarked high lock e =
+        subst (λ (ls : List Lock). came_marked c (named (record { 0 = t }) lock.cookie) (with_turn at (learns t f.op r.answer ls) p3) ≡ false) (sym (bare high))
+        (subst (λ (ls : List Lock). came_marked c (named (record { 0 = t }) lock.cookie) (with_turn at (holds t (size_with r.answer) r.seen ls) p2) ≡ false) (sym e) (rw (self c, self t, self lock.cookie.0) refl))
 
     -- and where none came all is held that was
     pub none_held : 0 < t → locks ≡ [] → held_at c p4 ≡ held_at c p

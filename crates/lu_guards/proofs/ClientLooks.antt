@@ -31,8 +31,8 @@ use Rattle.lu_client_rows.specs.Patches.{to_end, cut_extent}
 use Rattle.lu_client_rows.specs.Stripes.{below_on, stripes}
 use Rattle.lu_client_rows.specs.Wants.{want, wants_run, wants_rest, wants_cut, wants_of}
 use Rattle.lu_guards.proofs.Guards.{HasRange, In, InOrder, LacksOf, LockDoes}
-use Rattle.lu_guards.proofs.Lists.{in_append, in_right, in_filter}
-use Rattle.lu_guards.proofs.ClientLocks.{in_map, in_ordered}
+use Rattle.lu_guards.proofs.Lists.{in_append, in_right, in_filter, in_filtered}
+use Rattle.lu_guards.proofs.ClientLocks.{in_map, in_ordered, ordered_in}
 
 -- ---- how far offsets of an object go
 
@@ -176,6 +176,19 @@ serving_is wanted held h e = by (slice_get (those (ServingToTheEnd wanted) held)
         let is : g ≡ h = cc in
         let r = in_filter (matches (ServingToTheEnd wanted)) h (in_order held) (first_in (those (ServingToTheEnd wanted) held) h (q ∙ same)) in
         (in_ordered h held r.0, (and_parts (serves_use wanted h) (reaches_end h.lock.ask.policy) r.1).0)
+
+-- where one reaches the end, this one does
+pub serving_end : (wanted : Use) (held : List HeldLock) (h : HeldLock) → serving wanted held ≡ Some h → (x : HeldLock) → In x held → matches (ServingToTheEnd wanted) x ≡ true → reaches_end h.lock.ask.policy ≡ true
+serving_end wanted held h e x i fits = by (those (ServingToTheEnd wanted) held) refl (in_filtered (matches (ServingToTheEnd wanted)) x (in_order held) (ordered_in x held i) fits)
+  where
+    by : (xs : List HeldLock) → those (ServingToTheEnd wanted) held ≡ xs → In x xs → reaches_end h.lock.ask.policy ≡ true
+    by [] q j = absurd j
+    by (g ∷ xs) q j =
+        let s : serving wanted held ≡ Some g = rw q refl in
+        let same : Some g ≡ Some h = sym s ∙ e in
+        let is : g ≡ h = cc in
+        let r = in_filter (matches (ServingToTheEnd wanted)) h (in_order held) (subst (λ (ys : List HeldLock). In h ys) (sym q) (inl is)) in
+        (and_parts (serves_use wanted h) (reaches_end h.lock.ask.policy) r.1).1
 
 pub resource_is : (a b : Resource) → same_resource a b ≡ true → a ≡ b
 resource_is a b e =

@@ -1,8 +1,8 @@
 -- A call of a client whose reply was heard, or that got the lock that it waited for: one on names is told, or goes on for the size of its file; a
 -- glimpse goes on by what it heard; a call on bytes uses the lock that came. Each line is allowed.
-use Rattle.lu_guards.proofs.Guards.{WasGiven}
+use Rattle.lu_guards.proofs.Guards.{came_marked}
 use Rattle.lu_held.specs.declared.locks.HeldLock.{HeldLock}
-use Rattle.std.proofs.Common.{◌≡◌, ℕ, ◌+◌, ◌<◌, List, [], ◌∷◌, ◌++◌, ◌⊎◌, inl, inr, ⊎_elim, Option, Some, None, refl, sym, subst, ap, ◌∙◌, false}
+use Rattle.std.proofs.Common.{◌≡◌, ℕ, ◌+◌, ◌<◌, List, [], ◌∷◌, ◌++◌, ◌⊎◌, inl, inr, ⊎_elim, Option, Some, None, refl, sym, subst, ap, ◌∙◌, false, true}
 use Rattle.lu_base.specs.declared.ids.At.{At}
 use Rattle.lu_base.specs.declared.ids.Node.TheVariants.{Client}
 use Rattle.lu_base.specs.declared.ids.Stamp.{Stamp}
@@ -15,7 +15,7 @@ use Rattle.lu_msg.specs.declared.operations.Op.{Op}
 use Rattle.lu_held.specs.declared.names.LockName.{LockName}
 use Rattle.lu_words.specs.Carried.{Flight, Stats, Asking, Asked, Answered, Stage, Plain, Bad, Running}
 use Rattle.lu_words.specs.Words.{Entry, Told, Queues, Stands, Binds, Line, line, with_turn, WritesBack}
-use Rattle.lu_client_rows.specs.Advances.{unpins}
+use Rattle.lu_client_rows.specs.Advances.{unpins, name_under}
 use Rattle.lu_client_rows.specs.Caches.{held_at}
 use Rattle.lu_client_rows.specs.Known.{cookies_of_file, names_of}
 use Rattle.lu_client_rows.specs.Slots.{goes_at, goes, goes_on, slots_go}
@@ -68,11 +68,11 @@ module _ (head : table.Head) (c : ℕ) (stamp : Stamp) where
   flush_held slot p (Queues t q) k = refl
   flush_held slot p e k = absurd k
 
-  flush_given : (slot : ℕ) (p : List Line) (e : Entry) → FlushLine slot e → WasGiven c p → WasGiven c (line at e ∷ p)
-  flush_given slot p (Stands s r) k g = g
-  flush_given slot p (WritesBack resource change) k g = g
-  flush_given slot p (Queues t q) k g = g
-  flush_given slot p e k g = absurd k
+  flush_came : (slot : ℕ) (p : List Line) (name : LockName) (e : Entry) → FlushLine slot e → came_marked c name (line at e ∷ p) ≡ came_marked c name p
+  flush_came slot p name (Stands s r) k = refl
+  flush_came slot p name (WritesBack resource change) k = refl
+  flush_came slot p name (Queues t q) k = refl
+  flush_came slot p name e k = absurd k
 
   abbrev Moved : ℕ → List Line → List Entry → Type 0
   Moved slot p es = EntriesCovered es → Visited head c stamp slot p (with_turn at es p)
@@ -254,7 +254,7 @@ module _ (head : table.Head) (c : ℕ) (stamp : Stamp) where
             is = m.is;
             of_object = m.of_object;
             ranged = m.ranged;
-            how = ⊎_elim (λ (u : m.holding.marked ≡ false). inl u) (λ (g : WasGiven c q). inr (flush_given s q e k g)) m.how;
+            how = ⊎_elim (λ (u : m.holding.marked ≡ false). inl u) (λ (g : came_marked c (name_under m.wanting.wanted m.lock) q ≡ true). inr (flush_came s q (name_under m.wanting.wanted m.lock) e k ∙ g)) m.how;
           }
 
       lasts : (s : ℕ) → (s ≡ slot → ⊥) → (q : List Line) (e : Entry) → FlushLine s e → call_at c slot (line at e ∷ q) ≡ call_at c slot q → Came_in slot r q → Came_in slot r (line at e ∷ q)

@@ -19,7 +19,7 @@ use Rattle.lu_words.specs.Words.{Entry, Told, Stands, Unpins, Line, line, with_t
 use Rattle.lu_client_rows.specs.Advances.{looks, unpins, tells, gets, reads_wide, widened, widens, reads_narrow, acts}
 use Rattle.lu_client_rows.specs.States.{Store, store_turn, store_at}
 use Rattle.lu_table.specs.Heads as table
-use Rattle.lu_guards.proofs.Guards.{In, ReadsOn, ChangesOn, wanted_by, HadLock, Owes, ReadTells}
+use Rattle.lu_guards.proofs.Guards.{In, ReadsOn, ChangesOn, wanted_by, HadLock, Owes, ReadTells, PinsSince, Wider}
 use Rattle.lu_guards.proofs.Lists.{turn, turn_more}
 use Rattle.lu_guards.proofs.ClientLines.{ends}
 use Rattle.lu_guards.proofs.CallMoves.{Ready, Went, went_asks, ready_unpins, went_told}
@@ -28,6 +28,7 @@ use Rattle.lu_msg.specs.declared.answers.Answer.TheVariants as answer
 use Rattle.lu_client_rows.specs.Looks.{Page, missing_under, missing, content, file_size, has_reached}
 use Rattle.lu_client_rows.specs.Bytes.{page_size}
 use Rattle.lu_client_rows.specs.Stripes.{below_on, stripes}
+use Rattle.lu_client_rows.specs.Wants.{wants_of}
 use Rattle.lu_guards.proofs.ClientHandles.{IsNoOpen, other_tied}
 use Rattle.lu_guards.proofs.Covers.{covered_right}
 use Rattle.lu_guards.proofs.ClientTakes.{changes_mode, Seeks, reads_as, store_now, ReadOf, StatFor, ChangeOf, Seeking, Going, looks_good}
@@ -67,6 +68,12 @@ wide_spans r w on o n e = by on.kind
     by (inl q) = absurd (let s : Wide o n ≡ Narrow on.read.offset on.read.count = sym e ∙ q in cc)
     by (inr q) = let s : Wide o n ≡ Wide on.read.offset on.read.count = sym e ∙ q in record { first = cc; many = cc }
 
+the_first : (o n a b : ℕ) → Wide o n ≡ Wide a b → o ≡ a
+the_first o n a b e = cc
+
+the_count : (o n a b : ℕ) → Wide o n ≡ Wide a b → n ≡ b
+the_count o n a b e = cc
+
 no_reads : (r : Running) (w : Work) (on : ReadsOn r w) (k : Kind) → w.kind ≡ k → (k ≡ Narrow on.read.offset on.read.count → ⊥) → (k ≡ Wide on.read.offset on.read.count → ⊥) → ⊥
 no_reads r w on k e a b = ⊎_elim (λ (q : w.kind ≡ Narrow on.read.offset on.read.count). a (sym e ∙ q)) (λ (q : w.kind ≡ Wide on.read.offset on.read.count). b (sym e ∙ q)) on.kind
 
@@ -90,8 +97,8 @@ module _ (head : table.Head) (c : ℕ) (stamp : Stamp) where
         (used_or_left (wanted_by w) (record w { left = [] }) g.order x i)
 
     -- a missing page is fetched
-    gets_good : (on : ReadsOn r w) (page : Page) → missing w.layout on.read.offset (on.read.offset + on.read.count) (store_at c p) w.used ≡ Some page → Going head c stamp slot r before (gets slot page (record r { pins = pins }) w) p
-    gets_good on page lacks covered =
+    gets_good : (on : ReadsOn r w) (wider : Wider c p r w) (page : Page) → missing w.layout on.read.offset (on.read.offset + on.read.count) (store_at c p) w.used ≡ Some page → Going head c stamp slot r before (gets slot page (record r { pins = pins }) w) p
+    gets_good on wider page lacks covered =
         went_asks head c stamp slot r now page.under.want.target.0 (op.Get page.under.want.resource page.under.lock.cookie page.page) before p g.ready refl refl (g.due (Stands slot now) refl)
         (record {
           running = r;
@@ -101,7 +108,7 @@ module _ (head : table.Head) (c : ℕ) (stamp : Stamp) where
           stage = Gets w;
           pins = pins;
           is = refl;
-          how = inr (inr (inr (inl (record { work = w; is = refl; does = on; wants = wants; mine = g.mine; page = page; lacks = lacks }))));
+          how = inr (inr (inr (inl (record { work = w; is = refl; does = on; wants = wants; mine = g.mine; page = page; lacks = lacks; wider = wider }))));
           had = g.had;
           uses = g.uses;
           mine = g.mine;
@@ -188,8 +195,8 @@ module _ (head : table.Head) (c : ℕ) (stamp : Stamp) where
         (other_tied c stamp p slot at a (Some w) r g.ready.call (subst IsNoOpen (sym d.stat.stats) tt) g.ready.handles)
 
     -- one to the end is told the bytes up to the file's size
-    wide_good : (o n : ℕ) → w.kind ≡ Wide o n → (on : ReadsOn r w) → Going head c stamp slot r before (reads_wide at slot o n (record r { pins = pins }) w (store_at c p)) p
-    wide_good o n is on = by (missing w.layout o (o + n) s w.used) refl
+    wide_good : (o n : ℕ) → w.kind ≡ Wide o n → (on : ReadsOn r w) → Wider c p r w → Going head c stamp slot r before (reads_wide at slot o n (record r { pins = pins }) w (store_at c p)) p
+    wide_good o n is on wider = by (missing w.layout o (o + n) s w.used) refl
       where
         s : Store
         s = store_at c p
@@ -205,7 +212,7 @@ module _ (head : table.Head) (c : ℕ) (stamp : Stamp) where
 
         by : (m : Option Page) → missing w.layout o (o + n) s w.used ≡ m
             → Going head c stamp slot r before (elim m [ Some page ↦ gets slot page (record r { pins = pins }) w | None ↦ tells slot (record r { pins = pins }) at (answer.Content (content w.layout w.fid s o count)) (Some w) ]) p
-        by (Some page) e = gets_good on page (sym so ∙ e)
+        by (Some page) e = gets_good on wider page (sym so ∙ e)
         by None e =
             read_told on (content w.layout w.fid s o count) (
               sym so ∙ e,
@@ -225,10 +232,22 @@ module _ (head : table.Head) (c : ℕ) (stamp : Stamp) where
   unpins_due [] p P due = due
   unpins_due (m ∷ names) p P due = unpins_due names (line at (Unpins m) ∷ p) P due
 
+  unpins_since : (names : List LockName) (p : List Line) → PinsSince p (with_turn at (unpins names) p)
+  unpins_since names p = on names p p (same p)
+    where
+      same : (p : List Line) → PinsSince p p
+      same [] = refl
+      same (l ∷ p) = inl refl
+
+      on : (names : List LockName) (p q : List Line) → PinsSince p q → PinsSince p (with_turn at (unpins names) q)
+      on [] p q k = k
+      on (m ∷ names) p q k = on names p (line at (Unpins m) ∷ q) (inr k)
+
   -- and looks for those to the end
-  widens_good : (slot : ℕ) (r : Running) (o n : ℕ) (pins : List LockName) (w : Work) (before p : List Line) → Seeking head c stamp slot r (Narrow o n) pins w [] before p → (d : ReadOf head c stamp r w p)
+  widens_good : (slot : ℕ) (r : Running) (o n : ℕ) (pins : List LockName) (w : Work) (before p : List Line) → (g : Seeking head c stamp slot r (Narrow o n) pins w [] before p) → (d : ReadOf head c stamp r w p)
+      → missing w.layout d.on.read.offset (d.on.read.offset + d.on.read.count) (store_at c p) w.used ≡ None → has_reached w.layout (d.on.read.offset + d.on.read.count - 1) w.used (store_at c p) ≡ false
       → Going head c stamp slot r before (widens at slot o n (record r { pins = pins }) w (store_at c p)) p
-  widens_good slot r o n pins w before p g d covered =
+  widens_good slot r o n pins w before p g d none short covered =
       subst (Went head c stamp slot r before) (sym (turn_more at (unpins pins) (lines (store_turn (store_at c p) (unpins pins))) p))
       (subst (λ (s : Store). Going head c stamp slot r before (lines s) p1) (sym (store_now head c stamp (unpins pins) p)) on (covered_right (unpins pins) (lines (store_turn (store_at c p) (unpins pins))) covered))
     where
@@ -247,11 +266,27 @@ module _ (head : table.Head) (c : ℕ) (stamp : Stamp) where
       reads : ReadsOn r wide
       reads = record { read = d.on.read; kind = inr (ap (λ (x : ℕ). Wide x n) k.first ∙ ap (Wide d.on.read.offset) k.many); fid = d.on.fid; layout = d.on.layout }
 
+      wider : Wider c p1 r wide
+      wider a b e =
+          let q : Wide o n ≡ Wide a b = e in
+          let at_a : d.on.read.offset ≡ a = sym k.first ∙ the_first o n a b q in
+          let many_b : d.on.read.count ≡ b = sym k.many ∙ the_count o n a b q in
+          let same : Narrow a b ≡ w.kind = sym (ap (λ (x : ℕ). Narrow x n) (the_first o n a b q) ∙ ap (Narrow a) (the_count o n a b q)) ∙ sym g.of_kind in
+          inr (record {
+            before = p;
+            since = unpins_since pins p;
+            used = w.used;
+            wants = ap (wants_of w.layout w.fid) same ∙ g.order ∙ ends (map (λ (u : Using). u.want) w.used);
+            uses = g.uses;
+            none = subst (λ (x : ℕ). missing w.layout a (a + x) (store_at c p) w.used ≡ None) many_b (subst (λ (x : ℕ). missing w.layout x (x + d.on.read.count) (store_at c p) w.used ≡ None) at_a none);
+            short = subst (λ (x : ℕ). has_reached w.layout (a + x - 1) w.used (store_at c p) ≡ false) many_b (subst (λ (x : ℕ). has_reached w.layout (x + d.on.read.count - 1) w.used (store_at c p) ≡ false) at_a short);
+          })
+
       told : (ps : List LockName) (v : Work) (q : List Line) → Seeking head c stamp slot r (Wide o n) ps v [] before q → Going head c stamp slot r before (reads_wide at slot o n (record r { pins = ps }) v (store_at c q)) q
       told ps v q h = by h.does
         where
           by : ReadOf head c stamp r v q ⊎ StatFor head c stamp r ps v q ⊎ ChangeOf head c stamp r v q → Going head c stamp slot r before (reads_wide at slot o n (record r { pins = ps }) v (store_at c q)) q
-          by (inl x) = wide_good slot r (Wide o n) ps v before q h o n h.of_kind x.on
+          by (inl x) = wide_good slot r (Wide o n) ps v before q h o n h.of_kind x.on x.wider
           by (inr (inl x)) = absurd (let e : Wide o n ≡ Stats x.stat.mode x.stat.links = sym h.of_kind ∙ x.is_kind in cc)
           by (inr (inr x)) = absurd (no_changes r v x.on (Wide o n) h.of_kind refl)
 
@@ -261,7 +296,7 @@ module _ (head : table.Head) (c : ℕ) (stamp : Stamp) where
             ready = unpins_ready slot r pins before p g.ready d.frees;
             due = unpins_due pins p (Seeks slot) g.due;
             of_kind = refl;
-            does = inl (record { on = reads; frees = λ m. unpins_due pins p (λ e. (x : LockName) × (e ≡ Unpins x)) (λ e x. subst (λ (y : Entry). Owes p at y) (sym x.1) (d.frees x.0)) (Unpins m) (m, refl) });
+            does = inl (record { on = reads; wider = wider; frees = λ m. unpins_due pins p (λ e. (x : LockName) × (e ≡ Unpins x)) (λ e x. subst (λ (y : Entry). Owes p at y) (sym x.1) (d.frees x.0)) (Unpins m) (m, refl) });
             rest = refl;
             order = refl;
             mine = λ u i. absurd i;
@@ -300,10 +335,12 @@ module _ (head : table.Head) (c : ℕ) (stamp : Stamp) where
               ap (λ (x : ℕ). answer.Content (content w.layout w.fid s x n)) k.first ∙ ap (λ (x : ℕ). answer.Content (content w.layout w.fid s on.read.offset x)) k.many,
             ),
           )
-      reached none false e = widens_good slot r o n pins w before p g d
+      reached none false e =
+          widens_good slot r o n pins w before p g d (sym so ∙ none)
+          (sym (ap (λ (x : ℕ). has_reached w.layout (x + n - 1) w.used s) k.first ∙ ap (λ (x : ℕ). has_reached w.layout (on.read.offset + x - 1) w.used s) k.many) ∙ e)
 
       by : (m : Option Page) → missing w.layout o (o + n) s w.used ≡ m → Going head c stamp slot r before (elim m [ Some page ↦ gets slot page (record r { pins = pins }) w | None ↦ Told_or (has_reached w.layout (o + n - 1) w.used s) ]) p
-      by (Some page) e = gets_good slot r (Narrow o n) pins w before p g on page (sym so ∙ e)
+      by (Some page) e = gets_good slot r (Narrow o n) pins w before p g on d.wider page (sym so ∙ e)
       by None e = reached e (has_reached w.layout (o + n - 1) w.used s) refl
 
   -- ---- it acts
@@ -319,7 +356,7 @@ module _ (head : table.Head) (c : ℕ) (stamp : Stamp) where
   acts_good slot r (Wide o n) before bytes pins w p g = by g.does
     where
       by : ReadOf head c stamp r w p ⊎ StatFor head c stamp r pins w p ⊎ ChangeOf head c stamp r w p → Going head c stamp slot r before (reads_wide at slot o n (record r { pins = pins }) w (store_at c p)) p
-      by (inl d) = wide_good slot r (Wide o n) pins w before p g o n g.of_kind d.on
+      by (inl d) = wide_good slot r (Wide o n) pins w before p g o n g.of_kind d.on d.wider
       by (inr (inl d)) = absurd (let e : Wide o n ≡ Stats d.stat.mode d.stat.links = sym g.of_kind ∙ d.is_kind in cc)
       by (inr (inr d)) = absurd (no_changes r w d.on (Wide o n) g.of_kind refl)
   acts_good slot r (Writes o bs) before bytes pins w p g = by g.does

@@ -46,7 +46,7 @@ use Rattle.lu_covered.specs.Imports.{flights_at}
 use Rattle.lu_table.specs.Heads as table
 use Rattle.lu_table.specs.Runs.{client_of}
 use Rattle.lu_guards.proofs.HeedMarks.{heeds_marks, marks_left, MarkNext}
-use Rattle.lu_guards.proofs.Guards.{In, JustHeard, HadUsed, used_in, StandsOk, Owes, marks_of}
+use Rattle.lu_guards.proofs.Guards.{In, JustHeard, HadUsed, used_in, came_marked, StandsOk, Owes, marks_of}
 use Rattle.lu_guards.proofs.Lists.{self, life_is, turn, turn_more}
 use Rattle.lu_guards.proofs.Turns.{Settled, owes_nothing}
 use Rattle.lu_guards.proofs.Calls.{had_all, mine_all}
@@ -65,7 +65,7 @@ use Rattle.lu_guards.proofs.TurnStarts.{Starts, took_rested}
 use Rattle.lu_guards.proofs.Awaits.{Awaits, waiting_for, lock_named}
 use Rattle.lu_guards.proofs.AwaitsTurns.{took_awaits}
 use Rattle.lu_guards.proofs.AwaitsReplies.{IsLockOp, IsToWait, ReplyFits, heard_awaits}
-use Rattle.lu_guards.proofs.ClientHears.{IsHeard, Finds, p1, p4, locks, es, es_so, asks_what, bare, first, is_heard, one_held, none_held}
+use Rattle.lu_guards.proofs.ClientHears.{IsHeard, Finds, p1, p4, locks, es, es_so, asks_what, bare, first, is_heard, one_held, one_unmarked, none_held}
 use Rattle.lu_guards.proofs.AskedCalls.{bytes_as, sizes_as, wanting_as, AsksNow, who_asks, locks_of, locking_of, getting_of, gets_of, not_back, none_low, range_of, lock_is, others_of, Stood, stood, stood_idle}
 use Rattle.lu_guards.proofs.ClientStarts.{After}
 
@@ -367,6 +367,9 @@ module _ (head : table.Head) (c : ℕ) (stamp : Stamp) where
           locks_so : locks head c stamp p n t r f s found ≡ lock ∷ []
           locks_so = brought_so (answer.Granted cookie given size) is
 
+          unmarked_so : came_marked c (name_under g.wanted lock) q ≡ false
+          unmarked_so = ap (λ (u : ℕ). came_marked c (named (record { 0 = u }) cookie) q) (sym of_target) ∙ one_unmarked head c stamp p n t r f s found high lock locks_so
+
           came_ok : StandsOk q at c slot came
           came_ok =
               record {
@@ -397,6 +400,15 @@ module _ (head : table.Head) (c : ℕ) (stamp : Stamp) where
                       of_op = asked_so;
                       brings = subst (λ (ls : List Lock). In lock ls) (sym locks_so) (inl refl);
                     });
+                    wanted = g.wanted;
+                    left = g.left;
+                    first = g.first;
+                    holding = held_as t lock false;
+                    held = one_held head c stamp p n t r f s found high lock locks_so;
+                    same = refl;
+                    of_target = of_target;
+                    holds = sym unmarked_so;
+                    flag = unmarked_so;
                   }),
                 )))));
                 had = had_work;

@@ -291,6 +291,7 @@ module _ (head : table.Head) (c : ℕ) (stamp : Stamp) where
       (λ q w e s. w.holds.due e (refl, inl (seeks_read slot (call.Read h offset count) file b.small e s)))
       (λ q w. inl (record {
         on = record { read = record { handle = h; offset = offset; count = count; reads = refl; good = λ e. absurd (cc); file = f; of_file = is }; kind = inl refl; fid = refl; layout = refl };
+        wider = λ o n e. absurd (cc);
         frees = λ n. w.holds.due (Unpins n) (refl, inl tt);
       })) p b
 

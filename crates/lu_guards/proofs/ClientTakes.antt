@@ -15,8 +15,9 @@ use Rattle.lu_trace.specs.WellFormed.{IsCall}
 use Rattle.lu_held.specs.declared.locks.Change.TheVariants as change
 use Rattle.lu_held.specs.declared.locks.HeldLock.{HeldLock}
 use Rattle.lu_held.specs.declared.locks.Use.{Use}
+use Rattle.lu_held.specs.declared.locks.Wanted.TheVariants.{ServingToTheEnd}
 use Rattle.lu_held.specs.declared.names.LockName.{LockName}
-use Rattle.lu_held.specs.Locks.{named, name_of, is_named, serves_use, after}
+use Rattle.lu_held.specs.Locks.{named, name_of, is_named, reaches_end, matches, serves_use, after}
 use Rattle.lu_held.specs.Held.{changed, serving}
 use Rattle.lu_words.specs.declared.uses.Using.{Using}
 use Rattle.lu_words.specs.Carried.{Kind, Narrow, Wide, Writes, Cuts, Stats, Asked, Bad, Work, Enqueued, Running}
@@ -30,21 +31,21 @@ use Rattle.lu_covered.specs.Known.{notes_at, known_file}
 use Rattle.lu_table.specs.Heads as table
 use Rattle.lu_table.specs.Runs.{limits_of, client_of}
 use Rattle.lu_after.proofs.Clients.{client_own}
-use Rattle.lu_guards.proofs.Guards.{HasRange, In, ReadsOn, ChangesOn, IsChange, wanted_by, KnowsFile, ToldFile, GoesOn, StatOf, LacksOf, Locked, HadLock, used_in, LockDoes, CameFor, HeldFor, UsesHeld, PinsOk, SizesStand, LockStand, StatStand, GetStand, FlushStand, MovedStand, Owes}
+use Rattle.lu_guards.proofs.Guards.{HasRange, In, ReadsOn, ChangesOn, IsChange, wanted_by, KnowsFile, ToldFile, GoesOn, StatOf, LacksOf, Locked, HadLock, used_in, LockDoes, CameFor, EndFirst, HeldFor, UsesHeld, Narrowed, Wider, work_in, PinsOk, SizesStand, LockStand, StatStand, GetStand, FlushStand, MovedStand, Owes}
 use Rattle.lu_guards.proofs.ClientStoryGuards.{AsksInOrder}
 use Rattle.lu_guards.proofs.Lists.{self, in_append, in_left, in_right, turn}
 use Rattle.lu_guards.proofs.Covers.{EntriesCovered}
 use Rattle.lu_guards.proofs.Acts.{KindOf, bits_range}
 use Rattle.lu_guards.proofs.Held.{held_in}
 use Rattle.lu_guards.proofs.LockKinds.{held_kind}
-use Rattle.lu_guards.proofs.ClientLocks.{in_mapped}
+use Rattle.lu_guards.proofs.ClientLocks.{in_mapped, changed_only}
 use Rattle.lu_guards.proofs.ClientLines.{held_once, once_same}
 use Rattle.lu_guards.proofs.Calls.{limited}
 use Rattle.lu_guards.proofs.CallStands.{StatsOn}
 use Rattle.lu_guards.proofs.ClientGood.{Good, the_head, held_line}
 use Rattle.lu_guards.proofs.CallMoves.{Ready, ready_pins, Went, went_asks}
 use Rattle.lu_guards.proofs.ClientKnown.{known_file_pinned, cookies_pinned}
-use Rattle.lu_guards.proofs.ClientLooks.{IsShort, ByteUse, mode_of, wants_ok, wanted_in, enqueues, serving_is, Serves, serves_so, does_so, store_so}
+use Rattle.lu_guards.proofs.ClientLooks.{IsShort, ByteUse, mode_of, wants_ok, wanted_in, enqueues, serving_is, Serves, serves_so, does_so, store_so, serving_end}
 
 -- one more lock in use
 used_more : (us : List Using) (u : Using) (left : List Use) → map (λ (v : Using). v.want) (us ++ u ∷ []) ++ left ≡ map (λ (v : Using). v.want) us ++ u.want ∷ left
@@ -155,6 +156,7 @@ module _ (head : table.Head) (c : ℕ) (stamp : Stamp) where
   -- a read, which may unpin as well
   pub record ReadOf (r : Running) (w : Work) (p : List Line) : Type 0 where
     pub on : ReadsOn r w
+    pub wider : Wider c p r w
     pub frees : (name : LockName) → Owes p at (Unpins name)
 
   -- a stat, of a file of which all but the size is known
@@ -240,8 +242,8 @@ module _ (head : table.Head) (c : ℕ) (stamp : Stamp) where
       by (inr (inr k)) = inr (inr (record { work = k.work; stage = k.stage; kind = k.kind; of_fid = k.of_fid; of_layout = k.of_layout; pinned = λ m i. more m (k.pinned m i) }))
 
   -- a lock that is held is held still
-  locked_pinned : (n : LockName) (p : List Line) (x : Use) (k : Locked c p x) → (j : Locked c (line at (Pins n) ∷ p) x) × (j.holding.lock ≡ k.holding.lock)
-  locked_pinned n p x k = (record { holding = h; held = held; of_target = ap (λ (t : TargetId). t.0) (target b) ∙ k.of_target; of_object = ap (λ (l : Lock). l.resource) (lock b) ∙ k.of_object; ranged = subst (λ (l : Lock). HasRange l.ask.policy) (sym (lock b)) k.ranged }, lock b)
+  locked_pinned : (n : LockName) (p : List Line) (x : Use) (k : Locked c p x) → (j : Locked c (line at (Pins n) ∷ p) x) × (j.holding.lock ≡ k.holding.lock) × (j.holding.marked ≡ k.holding.marked)
+  locked_pinned n p x k = (record { holding = h; held = held; of_target = ap (λ (t : TargetId). t.0) (target b) ∙ k.of_target; of_object = ap (λ (l : Lock). l.resource) (lock b) ∙ k.of_object; ranged = subst (λ (l : Lock). HasRange l.ask.policy) (sym (lock b)) k.ranged }, lock b, marks b)
     where
       b : Bool
       b = is_named n k.holding
@@ -260,14 +262,30 @@ module _ (head : table.Head) (c : ℕ) (stamp : Stamp) where
       lock true = refl
       lock false = refl
 
+      marks : (v : Bool) → (pinned v).marked ≡ k.holding.marked
+      marks true = refl
+      marks false = refl
+
       held : In h (held_at c (line at (Pins n) ∷ p))
       held = subst (λ (hs : List HeldLock). In h hs) (sym (held_line head c stamp p (Pins n))) (in_mapped (λ (y : HeldLock). if is_named n y then after change.Pin y else y) k.holding (held_at c p) k.held)
+
+  -- and one that reaches the end goes first
+  end_pinned : (n : LockName) (p : List Line) (u : Using) → EndFirst c p u → EndFirst c (line at (Pins n) ∷ p) u
+  end_pinned n p u first h i fits = by (changed_only n change.Pin h (held_at c p) (subst (λ (hs : List HeldLock). In h hs) (held_line head c stamp p (Pins n)) i))
+    where
+      matching : (b : Bool) (x : HeldLock) → matches (ServingToTheEnd u.want) (if b then after change.Pin x else x) ≡ true → matches (ServingToTheEnd u.want) x ≡ true
+      matching true x e = e
+      matching false x e = e
+
+      by : (x : HeldLock) × In x (held_at c p) × ((if is_named n x then after change.Pin x else x) ≡ h) → reaches_end u.lock.ask.policy ≡ true
+      by m = first m.0 m.1 (matching (is_named n m.0) m.0 (subst (λ (y : HeldLock). matches (ServingToTheEnd u.want) y ≡ true) (sym m.2) fits))
 
   -- it is used
   pub record Takes (r : Running) (wanted : Use) (l : Lock) (p : List Line) : Type 0 where
     pub locked : Locked c p wanted
     pub is : locked.holding.lock ≡ l
     pub does : LockDoes (record { want = wanted; lock = l }) ⊎ CameFor r (record { want = wanted; lock = l })
+    pub apart : ((locked.holding.marked ≡ false) × EndFirst c p (record { want = wanted; lock = l })) ⊎ CameFor r (record { want = wanted; lock = l })
     pub object : 0 < wanted.target.0
     pub ok : PinsOk p c (name_under wanted l)
 
@@ -284,7 +302,7 @@ module _ (head : table.Head) (c : ℕ) (stamp : Stamp) where
         mine = each (λ v. In (name_under v.want v.lock) (pins ++ name ∷ [])) (λ v i. in_left (name_under v.want v.lock) pins (name ∷ []) (g.mine v i)) (in_right name pins (name ∷ []) (inl refl));
         objects = each (λ v. 0 < v.want.target.0) g.objects t.object;
         had = each (λ v. HadLock c slot v.want p1) (λ v i. inr (g.had v i)) (inr (had_now c slot wanted p t.locked));
-        uses = each (λ v. In v (used_in r.stage) ⊎ HeldFor c p1 r v) (λ v i. ⊎_elim (λ (j : In v (used_in r.stage)). inl j) (λ (k : HeldFor c p r v). inr (still v k)) (g.uses v i)) (inr (still u (record { locked = t.locked; is = t.is; does = t.does })));
+        uses = each (λ v. In v (used_in r.stage) ⊎ HeldFor c p1 r v) (λ v i. ⊎_elim (λ (j : In v (used_in r.stage)). inl j) (λ (k : HeldFor c p r v). inr (still v k)) (g.uses v i)) (inr (still u (record { locked = t.locked; is = t.is; does = t.does; apart = t.apart })));
       }
     where
       name : LockName
@@ -297,13 +315,21 @@ module _ (head : table.Head) (c : ℕ) (stamp : Stamp) where
       u = record { want = wanted; lock = l }
 
       still : (v : Using) → HeldFor c p r v → HeldFor c p1 r v
-      still v k = let j = locked_pinned name p v.want k.locked in record { locked = j.0; is = j.1 ∙ k.is; does = k.does }
+      still v k =
+          let j = locked_pinned name p v.want k.locked in
+          record { locked = j.0; is = j.1 ∙ k.is; does = k.does; apart = ⊎_elim (λ (a : (k.locked.holding.marked ≡ false) × EndFirst c p v). inl (j.2 ∙ a.0, end_pinned name p v a.1)) (λ (a : CameFor r v). inr a) k.apart }
 
       each : (P : Using → Type 0) → ((v : Using) → In v w.used → P v) → P u → (v : Using) → In v (w.used ++ u ∷ []) → P v
       each P all own v i = ⊎_elim (λ (j : In v w.used). all v j) (λ (j : In v (u ∷ [])). ⊎_elim (λ (q : u ≡ v). subst P q own) (λ (n : ⊥). absurd n) j) (in_append v w.used (u ∷ []) i)
 
       does : ReadOf r w p ⊎ StatFor r pins w p ⊎ ChangeOf r w p → ReadOf r (using wanted l left w) p1 ⊎ StatFor r (pins ++ name ∷ []) (using wanted l left w) p1 ⊎ ChangeOf r (using wanted l left w) p1
-      does (inl d) = inl (record { on = reads_as r r w (using wanted l left w) refl refl d.on.read.good refl refl refl d.on; frees = λ n. (refl, d.frees n) })
+      does (inl d) =
+          inl (record {
+            on = reads_as r r w (using wanted l left w) refl refl d.on.read.good refl refl refl d.on;
+            wider = λ o n e. ⊎_elim (λ (k : (old : Work) × (work_in r.stage ≡ Some old) × (old.kind ≡ Wide o n)). inl k)
+                (λ (k : Narrowed c p r w o n). inr (record { before = k.before; since = inr k.since; used = k.used; wants = k.wants; uses = k.uses; none = k.none; short = k.short })) (d.wider o n e);
+            frees = λ n. (refl, d.frees n);
+          })
       does (inr (inl d)) =
           let e = stat_pinned r pins (pins ++ name ∷ []) w name p (λ m i. in_left m pins (name ∷ []) i) d in
           inr (inl (record { stat = e.stat; is_kind = e.is_kind; fid = e.fid; layout = e.layout }))
@@ -406,9 +432,21 @@ module _ (head : table.Head) (c : ℕ) (stamp : Stamp) where
       how : ReadOf r w p ⊎ StatFor r pins w p ⊎ ChangeOf r w p
           → SizesStand p at r (Enqueued work) pins ⊎ LockStand p c r (Enqueued work) ⊎ StatStand p at c r (Enqueued work) pins ⊎ GetStand p c r (Enqueued work) pins ⊎ FlushStand p c r (Enqueued work) pins
           ⊎ ((pins ≡ r.pins) × MovedStand p at c r (Enqueued work))
-      how (inl d) = inr (inl (record { work = work; is = refl; does = inl (reads_as r r w work refl refl d.on.read.good refl refl refl d.on); lacks = lacking }))
+      how (inl d) = inr (inl (record { work = work; is = refl; does = inl (reads_as r r w work refl refl d.on.read.good refl refl refl d.on); lacks = lacking; wider = wider }))
+        where
+          wider : Wider c p r work
+          wider o n e =
+              ⊎_elim (λ (k : (old : Work) × (work_in r.stage ≡ Some old) × (old.kind ≡ Wide o n)). inl k)
+              (λ (k : Narrowed c p r w o n). inr (record { before = k.before; since = k.since; used = k.used; wants = k.wants; uses = k.uses; none = k.none; short = k.short })) (d.wider o n e)
       how (inr (inl d)) = inr (inr (inl (record { stat = d.stat; work = work; kind = d.is_kind; of_fid = d.fid; of_layout = d.layout; is = refl; lacks = lacking })))
-      how (inr (inr d)) = inr (inl (record { work = work; is = refl; does = inr (changes_as r r w work refl refl (changes_good r w d.on) refl refl refl d.on); lacks = lacking }))
+      how (inr (inr d)) =
+          inr (inl (record {
+            work = work;
+            is = refl;
+            does = inr (changes_as r r w work refl refl (changes_good r w d.on) refl refl refl d.on);
+            lacks = lacking;
+            wider = λ o n e. let both : PW ≡ PR = sym (changes_mode r w d.on) ∙ ap mode_of e in cc;
+          }))
 
       mode : ReadOf r w p ⊎ StatFor r pins w p ⊎ ChangeOf r w p → (wanted.mode ≡ PR) ⊎ ((wanted.mode ≡ PW) × IsChange now.call)
       mode (inl d) = inl (one.1.1 ∙ reads_mode r w d.on)
@@ -429,6 +467,7 @@ module _ (head : table.Head) (c : ℕ) (stamp : Stamp) where
         locked = record { holding = h; held = found.0; of_target = serves.of_target; of_object = serves.of_object; ranged = serves.ranged };
         is = refl;
         does = inl (does_so wanted h found.1);
+        apart = inl (serves.unmarked, first);
         object = subst (λ (n : ℕ). 0 < n) serves.of_target (held_range p good h found.0 serves.ranged);
         ok = inl (λ x i n. ap (λ (y : HeldLock). y.marked) (sym (once_same (held_at c p) h x (held_once (the_head head c stamp) c p good.grown) found.0 i (ap (λ (m : LockName). is_named m x) name ∙ n))) ∙ serves.unmarked);
       }
@@ -438,6 +477,9 @@ module _ (head : table.Head) (c : ℕ) (stamp : Stamp) where
 
       serves : Serves wanted h
       serves = serves_so wanted h (subst HasRange (sym one.policy) tt) found.1
+
+      first : EndFirst c p (record { want = wanted; lock = h.lock })
+      first x i fits = serving_end wanted (held_at c p) h is x i fits
 
       name : name_of h ≡ name_under wanted h.lock
       name = ap (λ (n : ℕ). named (record { 0 = n }) h.lock.cookie) serves.of_target

@@ -17,7 +17,7 @@ use Rattle.lu_client_rows.specs.Advances.{name_under, looks, acts, comes}
 use Rattle.lu_client_rows.specs.Caches.{held_at}
 use Rattle.lu_client_rows.specs.States.{Store, store_at}
 use Rattle.lu_table.specs.Heads as table
-use Rattle.lu_guards.proofs.Guards.{In, ReadsOn, ChangesOn, Owes, HasRange, used_in, work_in, used_of, WasGiven}
+use Rattle.lu_guards.proofs.Guards.{In, ReadsOn, ChangesOn, Owes, HasRange, used_in, work_in, used_of, came_marked}
 use Rattle.lu_guards.proofs.Lists.{turn}
 use Rattle.lu_guards.proofs.ClientLines.{held_once, once_same}
 use Rattle.lu_guards.proofs.CallMoves.{Ready}
@@ -104,7 +104,7 @@ module _ (head : table.Head) (c : ℕ) (stamp : Stamp) where
       in_use u i = subst (λ (o : Option Work). In u (used_of o)) (sym works) i
 
       does : ReadsOn r w ⊎ StatsOn r w ⊎ ChangesOn r w → ReadOf head c stamp r w p ⊎ StatFor head c stamp r r.pins w p ⊎ ChangeOf head c stamp r w p
-      does (inl d) = inl (record { on = d; frees = λ n. owes_nothing p at (Unpins n) settled })
+      does (inl d) = inl (record { on = d; wider = λ o n e. inl (w, works, e); frees = λ n. owes_nothing p at (Unpins n) settled })
       does (inr (inl d)) =
           inr (inl (record {
             stat = record {
@@ -144,9 +144,10 @@ module _ (head : table.Head) (c : ℕ) (stamp : Stamp) where
         locked = record { holding = m.holding; held = m.held; of_target = m.of_target; of_object = ap (λ (l : Lock). l.resource) m.is ∙ m.of_object; ranged = subst (λ (l : Lock). HasRange l.ask.policy) (sym m.is) m.ranged };
         is = m.is;
         does = inr (w, left, m.stage, m.wanting.first);
+        apart = inr (w, left, m.stage, m.wanting.first);
         object = m.object;
         ok = ⊎_elim (λ (free : m.holding.marked ≡ false). inl (λ x i n. ap (λ (h : HeldLock). h.marked) (sym (once_same (held_at c p) m.holding x (held_once (the_head head c stamp) c p y.good.grown) m.held i (own x n))) ∙ free))
-            (λ (given : WasGiven c p). inr (record { slot = slot; running = r; call = y.call; work = w; lock = m.lock; stage = m.stage; wanted = wanted; left = left; first = m.wanting.first; is = refl; given = given })) m.how;
+            (λ (came : came_marked c (name_under wanted m.lock) p ≡ true). inr (record { slot = slot; running = r; call = y.call; work = w; lock = m.lock; stage = m.stage; wanted = wanted; left = left; first = m.wanting.first; is = refl; object = m.object; marked = came })) m.how;
       })
       (λ ps v q. looks_good head c stamp slot r w.kind (acts at slot w.kind) before (acts_good head c stamp slot r w.kind before b) left ps v q))
     where

@@ -2,13 +2,15 @@
 -- they are told.
 use Rattle.lu_layout.specs.Raid0.{Raid0}
 use Rattle.lu_base.specs.declared.locks.Resource.{Resource}
-use Rattle.std.proofs.Common.{◌≡◌, ℕ, ◌+◌, ◌-◌, List, [], ◌∷◌, ◌++◌, ◌⊎◌, inl, inr, ⊎_elim, Some, refl, sym, subst, ap, ◌∙◌}
+use Rattle.std.proofs.Common.{true, false, ◌≡◌, ℕ, ◌+◌, ◌-◌, List, [], ◌∷◌, ◌++◌, ◌⊎◌, inl, inr, ⊎_elim, Some, refl, sym, subst, ap, ◌∙◌}
 use Rattle.std.specs.Prelude.{length, map}
 use Rattle.lu_base.specs.declared.ids.At.{At}
 use Rattle.lu_base.specs.declared.ids.Node.TheVariants.{Client}
 use Rattle.lu_base.specs.declared.ids.Stamp.{Stamp}
 use Rattle.lu_held.specs.declared.locks.HeldLock.{HeldLock}
 use Rattle.lu_held.specs.declared.locks.Use.{Use}
+use Rattle.lu_held.specs.declared.locks.Wanted.TheVariants.{ServingToTheEnd}
+use Rattle.lu_held.specs.Locks.{reaches_end, matches}
 use Rattle.lu_held.specs.declared.names.LockName.{LockName}
 use Rattle.lu_words.specs.declared.uses.Using.{Using}
 use Rattle.lu_words.specs.Carried.{Kind, Writes, Cuts, Work, Running}
@@ -16,7 +18,7 @@ use Rattle.lu_words.specs.Words.{Entry, Tick, Told, Line, line, with_turn, Chang
 use Rattle.lu_client_rows.specs.Advances.{tells, writes_on, writes, cuts}
 use Rattle.lu_client_rows.specs.Caches.{held_at}
 use Rattle.lu_table.specs.Heads as table
-use Rattle.lu_guards.proofs.Guards.{ChangesOk, In, ChangesOn, wanted_by, HadLock, used_in, HeldFor, UsesHeld, Owes, pieces_of, piece_on, NotChanging}
+use Rattle.lu_guards.proofs.Guards.{ChangesOk, In, ChangesOn, wanted_by, HadLock, used_in, CameFor, EndFirst, HeldFor, UsesHeld, Owes, pieces_of, piece_on, NotChanging}
 use Rattle.lu_guards.proofs.Lists.{in_right, turn_more, turn}
 use Rattle.lu_guards.proofs.ClientLines.{ends}
 use Rattle.lu_guards.proofs.CallMoves.{Ready, ready_changes, ready_shows, went_told}
@@ -89,6 +91,7 @@ module _ (head : table.Head) (c : ℕ) (stamp : Stamp) where
               locked = record { holding = l.holding; held = subst (λ (hs : List HeldLock). In l.holding hs) (sym same) l.held; of_target = l.of_target; of_object = l.of_object; ranged = l.ranged };
               is = k.is;
               does = k.does;
+              apart = ⊎_elim (λ (a : (l.holding.marked ≡ false) × EndFirst c q u). inl (a.0, subst (λ (hs : List HeldLock). (h : HeldLock) → In h hs → matches (ServingToTheEnd u.want) h ≡ true → reaches_end u.lock.ask.policy ≡ true) (sym same) a.1)) (λ (a : CameFor r u). inr a) k.apart;
             }
 
     -- of what it made so far

@@ -44,8 +44,8 @@ pub use Rattle.lu_guards.proofs.HeedMarks.{marks_of, MarkNext}
 use Rattle.lu_guards.proofs.HeedMarks.{owed_of}
 pub use Rattle.lu_guards.proofs.ClientGuards.{GivenOk, AsksWhere, TookAsk, PeekedNow, SizeOk, PeekOk}
 pub use Rattle.lu_guards.proofs.Heard.{HasRange, In, Was, HeardAs, JustHeard, HeardNow, Learned, TookNow, Took, Noticed, TookRequest, Dropped, request, name_of, Later, Steps, Ending, Closes, InTurn}
-pub use Rattle.lu_guards.proofs.CallGuards.{Begins, is_ready_for, is_welcome, BeginOk, IsAlone, IsGlimpse, IsFlush, IsRead, Reads, ReadsOn, WritesOn, CutsOn, ChangesOn, IsChange, InOrder, wanted_by, work_in, NamesAskOk, SizeAskOk, LockAskOk, GetAskOk, CallAsksOk, TakesBack, BackAskOk, QueuesOk, pieces_of, piece_on, NewestChanges, NotChanging, ChangesOk, WritesBackOk, WroteNow, ShowsWritten, ShowsOk, held_by, store_by, AllSized, HeardSize, NoneHeard, LeftSize, CameSize, SizesSoFar, heard_sizes, HasSizes, SizesStand, LacksOf, LockStand, GetStand, KnowsFile, ToldFile, GoesOn, StatOf, StatStand, Replied, LockGranted, LockBrought, CameStand, WaitStand, MarkStand, ForgotStand, LookStand, MovedStand, HasChange, FlushStand, Locked, Unless, HadLock, used_of, used_in, HadUsed, LockDoes, CameFor, HeldFor, UsesHeld, StandsOk}
-pub use Rattle.lu_guards.proofs.ToldGuards.{IsToldAsIs, ToldOk, KnownOk, BadOk, SizesToldOk, ReadTells, ReadToldOk, StatToldOk, MadeNow, WroteOk, AllClean, FlushFrom, FlushedOk, EndsOk, TellsOk, WasGiven, CamePins, IsUnmarked, PinsOk, IsFlushing, OfFlush, StartsRead, Starts, StartsStat, OwesBegun, IsChanging, IsShowing}
+pub use Rattle.lu_guards.proofs.CallGuards.{Begins, is_ready_for, is_welcome, BeginOk, IsAlone, IsGlimpse, IsFlush, IsRead, Reads, ReadsOn, WritesOn, CutsOn, ChangesOn, IsChange, InOrder, wanted_by, work_in, NamesAskOk, SizeAskOk, LockAskOk, GetAskOk, CallAsksOk, TakesBack, BackAskOk, QueuesOk, pieces_of, piece_on, NewestChanges, NotChanging, ChangesOk, WritesBackOk, WroteNow, ShowsWritten, ShowsOk, held_by, store_by, AllSized, HeardSize, NoneHeard, LeftSize, CameSize, SizesSoFar, heard_sizes, HasSizes, SizesStand, LacksOf, PinsSince, Narrowed, Wider, LockStand, GetStand, KnowsFile, ToldFile, GoesOn, StatOf, StatStand, Replied, LockGranted, LockBrought, came_marked, came_as, CameStand, WaitStand, MarkStand, ForgotStand, LookStand, MovedStand, HasChange, FlushStand, Locked, Unless, HadLock, used_of, used_in, HadUsed, LockDoes, CameFor, EndFirst, HeldFor, UsesHeld, StandsOk}
+pub use Rattle.lu_guards.proofs.ToldGuards.{IsToldAsIs, ToldOk, KnownOk, BadOk, SizesToldOk, ReadTells, ReadToldOk, StatToldOk, MadeNow, WroteOk, AllClean, FlushFrom, FlushedOk, EndsOk, TellsOk, CamePins, IsUnmarked, PinsOk, IsFlushing, OfFlush, StartsRead, Starts, StartsStat, OwesBegun, IsChanging, IsShowing}
 
 -- ---- over the whole past
 

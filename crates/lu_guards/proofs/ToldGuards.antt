@@ -1,10 +1,9 @@
 -- When a client's call may be told, a lock pinned, and what a call owes that has just begun or makes its changes. What a call on bytes is told
 -- is said in the words of the rows, over what its client holds and knows just before.
-use Rattle.std.proofs.Common.{◌≡◌, ℕ, ◌+◌, ◌-◌, true, false, List, [], ◌∷◌, Option, Some, None, ◌⊎◌}
+use Rattle.std.proofs.Common.{◌≡◌, ℕ, ◌+◌, ◌-◌, ◌<◌, true, false, List, [], ◌∷◌, Option, Some, None, ◌⊎◌}
 use Rattle.std.specs.Prelude.{map, drop, min}
 use Rattle.lu_base.specs.declared.ids.At.{At}
 use Rattle.lu_base.specs.declared.ids.Fid.{Fid}
-use Rattle.lu_base.specs.declared.ids.Node.TheVariants.{Client, Target}
 use Rattle.lu_base.specs.declared.locks.Lock.{Lock}
 use Rattle.lu_base.specs.declared.locks.Resource.{Resource}
 use Rattle.lu_msg.specs.declared.answers.Answer.{Answer}
@@ -12,8 +11,6 @@ use Rattle.lu_msg.specs.declared.answers.Answer.TheVariants as answer
 use Rattle.lu_msg.specs.declared.answers.Errno.TheVariants.{EBADF, EIO}
 use Rattle.lu_msg.specs.declared.calls.Call.{Call}
 use Rattle.lu_msg.specs.declared.calls.Call.TheVariants as call
-use Rattle.lu_msg.specs.declared.messages.GrantNotice.{GrantNotice}
-use Rattle.lu_msg.specs.declared.messages.Message.TheVariants as message
 use Rattle.lu_msg.specs.declared.messages.Reply.{Reply as ReplyTo}
 use Rattle.lu_msg.specs.declared.operations.Op.{Op}
 use Rattle.lu_held.specs.declared.locks.HeldLock.{HeldLock}
@@ -32,8 +29,8 @@ use Rattle.lu_client_rows.specs.Stripes.{stripes, object}
 use Rattle.lu_client_rows.specs.WriteBack.{is_clean}
 use Rattle.lu_covered.specs.Calls.{begun, call_at, becomes, told_as, life_at}
 use Rattle.lu_covered.specs.Known.{notes_at, known_answer}
-use Rattle.lu_guards.proofs.Heard.{In, Was, JustHeard, Learned, Noticed}
-use Rattle.lu_guards.proofs.CallGuards.{IsFlush, ReadsOn, ChangesOn, wanted_by, pieces_of, NotChanging, HasSizes, StatOf, HadLock, UsesHeld}
+use Rattle.lu_guards.proofs.Heard.{In, JustHeard, Learned, Noticed}
+use Rattle.lu_guards.proofs.CallGuards.{IsFlush, ReadsOn, ChangesOn, wanted_by, pieces_of, NotChanging, came_marked, HasSizes, StatOf, HadLock, UsesHeld}
 
 -- ---- a call is told
 
@@ -200,10 +197,6 @@ TellsOk past at c slot turn answer work =
 
 -- ---- a lock is pinned
 
--- a target told the client that it has a lock
-abbrev pub WasGiven : ℕ → List Line → Type 0
-WasGiven c past = (t : ℕ) × (notice : GrantNotice) × Was past (Target t) (Client c) (message.Grant notice)
-
 -- the call in a slot got the lock of that name, and uses it, also where it was called back meanwhile
 pub record CamePins (past : List Line) (c : ℕ) (name : LockName) : Type 0 where
   pub slot : ℕ
@@ -216,7 +209,8 @@ pub record CamePins (past : List Line) (c : ℕ) (name : LockName) : Type 0 wher
   pub left : List Use
   pub first : work.left ≡ wanted ∷ left
   pub is : name ≡ name_under wanted lock
-  pub given : WasGiven c past
+  pub object : 0 < wanted.target.0
+  pub marked : came_marked c name past ≡ true
 
 -- no held lock of that name is marked
 abbrev pub IsUnmarked : List Line → ℕ → LockName → Type 0

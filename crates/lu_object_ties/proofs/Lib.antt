@@ -1,3 +1,6 @@
+pub mod TellsAgree
+pub mod TellsPairs
+pub mod TellsStay
 pub mod TiedWord
 pub mod PointsTables
 pub mod PointsKnown

@@ -116,7 +116,7 @@ module _ (head : Head) (past : List Line) (at : At) (c : ℕ) (q : Running) (g :
   of_mark : (stage : Stage) → MarkStand past at q stage → StageNamed past stage
   of_mark stage k = subst (StageNamed past) (sym k.is) (subst (StageNamed past) k.before before)
 
-  of_came : (stage : Stage) → CameStand past at q stage → StageNamed past stage
+  of_came : (stage : Stage) → CameStand past at c q stage → StageNamed past stage
   of_came stage k = subst (StageNamed past) (sym k.is) (λ wanted left e. by wanted left e k.from)
     where
       by : (wanted : Use) (left : List Use) → k.work.left ≡ wanted ∷ left → LockBrought past at q k.work k.lock ⊎ LockGranted past at q k.work k.lock → NamedFor past wanted k.lock.cookie.0
