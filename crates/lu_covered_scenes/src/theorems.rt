@@ -12,9 +12,10 @@ ghost use Rattle.lu_lawful.specs.SixLaws.{SixLaws};
 ghost use Rattle.lu_lawful.specs.Lawful.{Lawful};
 ghost use Rattle.lu_covered_scenes.specs.Covered.{IsCovered, AsksNoDisk};
 
-/// Whatever a scenario comes to, where no call to a disk has failed, is a covered run of the whole table, so its trace keeps
-/// all laws but that of silent repeats, also where targets crash, boot, recover and close their windows. Where
-/// no call of it changes bytes its trace is lawful, by all laws. And where beside that no line gives a command to a target
+/// Whatever a scenario comes to, where no call to a disk has failed, is a covered run of the whole table, so its trace is
+/// lawful, by all laws, also where targets crash, boot, recover and close their windows (`all`). The program's contracts cite
+/// two parts of that: all laws but that of silent repeats (`keeps`), and all laws where no call changes bytes
+/// (`lawful`). Where beside that no line gives a command to a target
 /// and the lines show that no client is evicted no call has failed, unless one at a target's start: its turns make no other.
 pub fn scenes_are_lawful()
     ensures run { (scene : Scene) → KeepsLimits scene → let head = head_of scene.head in (disks : Disks) (c : Config)
@@ -26,6 +27,9 @@ pub fn scenes_are_lawful()
         → SixLaws scene.head.osts (printed (past_of c)) }
     ensures bare { (scene : Scene) → IsCovered scene → let head = head_of scene.head in (disks : Disks) (c : Config)
         → Leads head disks (start head disks scene) c → has_failed (past_of c) ≡ false → AllBare (past_of c) }
+    ensures all { (scene : Scene) → KeepsLimits scene → let head = head_of scene.head in (disks : Disks) (c : Config)
+        → Leads head disks (start head disks scene) c → has_failed (past_of c) ≡ false
+        → Lawful scene.head.osts (printed (past_of c)) }
     ensures lawful { (scene : Scene) → IsCovered scene → let head = head_of scene.head in (disks : Disks) (c : Config)
         → Leads head disks (start head disks scene) c → has_failed (past_of c) ≡ false
         → Lawful scene.head.osts (printed (past_of c)) }

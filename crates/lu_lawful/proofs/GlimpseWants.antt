@@ -269,6 +269,7 @@ module _ (head : Head) (l : Line) (past : List Line) (c slot : ℕ) (y : Run hea
                   locked = record { holding = h.holding; held = holds_it; of_target = h.of_target; of_object = ap (λ (v : Lock). v.resource) h.is ∙ h.of_object; ranged = subst (λ (v : Lock). HasRange v.ask.policy) (sym h.is) h.ranged };
                   is = h.is;
                   does = inr (h.work, h.left, h.stage, h.first);
+                  apart = inr (h.work, h.left, h.stage, h.first);
                 })))
                 (λ (q : ⊥). absurd q)
                 i)

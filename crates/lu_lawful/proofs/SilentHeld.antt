@@ -1,6 +1,6 @@
 -- What a client holds that lasts (a lock that is called back while it is pinned goes later) and knows under that only grows, until it gives up
 -- a lock, or marks one that is pinned, or begins a new life.
-use Rattle.std.proofs.Common.{◌≡◌, ℕ, ◌-◌, Bool, true, false, List, [], ◌∷◌, ◌++◌, ◌⊎◌, inl, inr, refl, sym, subst, ap, ◌∙◌}
+use Rattle.std.proofs.Common.{◌≡◌, ℕ, ◌-◌, Bool, true, false, List, [], ◌∷◌, ◌++◌, ◌⊎◌, inl, inr, ⊎_elim, refl, sym, subst, ap, ◌∙◌, arith}
 use Rattle.std.specs.Prelude.{nat_eq, not, ◌==◌, ◌&&◌, if◌then◌else◌, map}
 use Rattle.std.proofs.lemmas.Bool.{cond_both, eqb-true}
 use Rattle.lu_base.specs.declared.ids.Cookie.{Cookie}
@@ -10,18 +10,18 @@ use Rattle.lu_base.specs.declared.ids.Stamp.{Stamp}
 use Rattle.lu_held.specs.declared.locks.Change.TheVariants as lock
 use Rattle.lu_held.specs.declared.locks.HeldLock.{HeldLock}
 use Rattle.lu_held.specs.declared.names.LockName.{LockName}
-use Rattle.lu_held.specs.Locks.{named, after}
+use Rattle.lu_held.specs.Locks.{named, is_named, after}
 use Rattle.lu_held.specs.Held.{changed, used, without, unmarked}
 use Rattle.lu_words.specs.Words.{Entry, Heard, Hold, Drop, Life, Pins, Unpins, Marks, Unmarks, Learns, Line, line, is_client}
 use Rattle.lu_client_rows.specs.Caches.{held_as, with_held, brought, with_brought, held_at}
 use Rattle.lu_client_rows.specs.Facts.{Fact, taught, without_facts, facts_at}
 use Rattle.lu_client_rows.specs.Known.{Notes, is_usable}
 use Rattle.lu_covered.specs.Known.{notes_at}
-use Rattle.lu_guards.proofs.Guards.{In, IsFree}
+use Rattle.lu_guards.proofs.Guards.{In, IsFree, EntryOk, IsUnmarked, CamePins}
 use Rattle.lu_guards.proofs.Lists.{in_right}
 use Rattle.lu_facts.proofs.Groups.{turn}
-use Rattle.lu_facts.proofs.BareGuards.{BareOk}
 use Rattle.lu_facts.proofs.HeldThere.{There, IsClear, IsIt, in_map, map_in, usable_clear, clear_usable, changed_there, unmarked_there, used_there, with_there, brought_there}
+use Rattle.lu_lawful.proofs.OneWord.{named_target}
 use Rattle.lu_lawful.proofs.SilentKnown.{Grows}
 
 -- ---- a lock that lasts
@@ -118,35 +118,52 @@ MarksFree c past node e = Unit {0}
 abbrev pub Stays : ℕ → List Line → Node → Entry → Type 0
 Stays c past node e = (gives_up c node e ≡ false) × MarksFree c past node e
 
+-- on names
+abbrev OfNames : HeldLock → Type 0
+OfNames h = (h.target.0 ≡ 0) × Lasts h
+
 module _ (c : ℕ) (past : List Line) (stamp : Stamp) where
   abbrev H : List HeldLock
   H = held_at c past
 
-  pub held_stays : (of k : ℕ) (node : Node) (e : Entry) → BareOk past (turn stamp node) node e → Stays c past node e → Present of k (held_at c past) → Present of k (held_at c (line (turn stamp node) e ∷ past))
-  held_stays of k (Client d) (Heard t f r) ok stays p =
-      cond_both (nat_eq c d) (with_brought t (brought f.op r) H) H (λ (v : List HeldLock). Present of k v)
-      (λ o. brought_there Lasts of k (λ u l. inl refl) t (brought f.op r) H p) (λ o. p)
-  held_stays of k (Client d) (Hold t l marked size seen) ok stays p =
-      cond_both (nat_eq c d) (with_held (held_as t l marked) H) H (λ (v : List HeldLock). Present of k v)
-      (λ o. with_there Lasts of k (held_as t l marked) H (inr refl) p) (λ o. p)
-  held_stays of k (Client d) (Drop t l) ok stays p = subst (λ (b : Bool). Present of k (if b then without (named (record { 0 = t }) l.cookie) H else H)) (sym stays.0) p
-  held_stays of k (Client d) (Pins name) ok stays p = cond_both (nat_eq c d) (changed name lock.Pin H) H (λ (v : List HeldLock). Present of k v)
-      (λ o. changed_there Lasts of k name lock.Pin H (λ h i t w. pin_lasts h (ok h (subst (λ (v : ℕ). In h (held_at v past)) (eqb-true c d o) i) t)) p) (λ o. p)
-  held_stays of k (Client d) (Unpins name) ok stays p = cond_both (nat_eq c d) (used name (changed name lock.Unpin H)) H (λ (v : List HeldLock). Present of k v)
-      (λ o. used_there Lasts of k name (changed name lock.Unpin H) (changed_there Lasts of k name lock.Unpin H (λ h i t w. unpin_lasts h w) p)) (λ o. p)
-  held_stays of k (Client d) (Marks name) ok stays p = cond_both (nat_eq c d) (changed name lock.Mark H) H (λ (v : List HeldLock). Present of k v)
-      (λ o. changed_there Lasts of k name lock.Mark H (λ h i t w. mark_lasts h (stays.1 o h i t)) p) (λ o. p)
-  held_stays of k (Client d) (Unmarks t) ok stays p = cond_both (nat_eq c d) (unmarked (record { 0 = t }) H) H (λ (v : List HeldLock). Present of k v) (λ o. unmarked_there Lasts of k t H (λ h w. inl refl) p) (λ o. p)
-  held_stays of k (Target t) (Heard u f r) ok stays p = absurd ok
-  held_stays of k (Target t) (Hold u l marked size seen) ok stays p = absurd ok
-  held_stays of k (Target t) (Drop u l) ok stays p = absurd ok
-  held_stays of k (Target t) (Pins name) ok stays p = absurd ok
-  held_stays of k (Target t) (Unpins name) ok stays p = absurd ok
-  held_stays of k (Target t) (Marks name) ok stays p = absurd ok
-  held_stays of k (Target t) (Unmarks u) ok stays p = absurd ok
-  held_stays of k _ _ ok stays p = p
+  pub held_stays : (k : ℕ) (node : Node) (e : Entry) → EntryOk past (turn stamp node) node e → Stays c past node e → Present 0 k (held_at c past) → Present 0 k (held_at c (line (turn stamp node) e ∷ past))
+  held_stays k (Client d) (Heard t f r) ok stays p =
+      cond_both (nat_eq c d) (with_brought t (brought f.op r) H) H (λ (v : List HeldLock). Present 0 k v)
+      (λ o. brought_there Lasts 0 k (λ u l. inl refl) t (brought f.op r) H p) (λ o. p)
+  held_stays k (Client d) (Hold t l marked size seen) ok stays p =
+      cond_both (nat_eq c d) (with_held (held_as t l marked) H) H (λ (v : List HeldLock). Present 0 k v)
+      (λ o. with_there Lasts 0 k (held_as t l marked) H (inr refl) p) (λ o. p)
+  held_stays k (Client d) (Drop t l) ok stays p = subst (λ (b : Bool). Present 0 k (if b then without (named (record { 0 = t }) l.cookie) H else H)) (sym stays.0) p
+  held_stays k (Client d) (Pins name) ok stays p = cond_both (nat_eq c d) (changed name lock.Pin H) H (λ (v : List HeldLock). Present 0 k v)
+      (λ o. of_names (changed_there OfNames 0 k name lock.Pin H (λ h i t w. (w.0, pin_lasts h (unmarked_name h (subst (λ (v : ℕ). In h (held_at v past)) (eqb-true c d o) i) t w.0))) (p.0, (p.1.0, (p.1.1.0, (p.1.1.0.0, p.1.1.1)))))) (λ o. p)
+    where
+      of_names : There OfNames 0 k (changed name lock.Pin H) → Present 0 k (changed name lock.Pin H)
+      of_names q = (q.0, (q.1.0, (q.1.1.0, q.1.1.1.1)))
 
-  facts_stay : (x : Fact) (node : Node) (e : Entry) → BareOk past (turn stamp node) node e → gives_up c node e ≡ false → In x (facts_at c past) → In x (facts_at c (line (turn stamp node) e ∷ past))
+      -- a lock that came called back is on an object
+      unmarked_name : (h : HeldLock) → In h (held_at d past) → is_named name h ≡ true → h.target.0 ≡ 0 → h.marked ≡ false
+      unmarked_name h i t z = ⊎_elim (λ (u : IsUnmarked past d name). u h i t)
+          (λ (came : CamePins past d name).
+          let same : name.target.0 ≡ came.wanted.target.0 = ap (λ (n : LockName). n.target.0) came.is in
+          let is = named_target name h t in
+          let object = came.object in
+          absurd (omega (arith, same, is, z, object)))
+          ok
+  held_stays k (Client d) (Unpins name) ok stays p = cond_both (nat_eq c d) (used name (changed name lock.Unpin H)) H (λ (v : List HeldLock). Present 0 k v)
+      (λ o. used_there Lasts 0 k name (changed name lock.Unpin H) (changed_there Lasts 0 k name lock.Unpin H (λ h i t w. unpin_lasts h w) p)) (λ o. p)
+  held_stays k (Client d) (Marks name) ok stays p = cond_both (nat_eq c d) (changed name lock.Mark H) H (λ (v : List HeldLock). Present 0 k v)
+      (λ o. changed_there Lasts 0 k name lock.Mark H (λ h i t w. mark_lasts h (stays.1 o h i t)) p) (λ o. p)
+  held_stays k (Client d) (Unmarks t) ok stays p = cond_both (nat_eq c d) (unmarked (record { 0 = t }) H) H (λ (v : List HeldLock). Present 0 k v) (λ o. unmarked_there Lasts 0 k t H (λ h w. inl refl) p) (λ o. p)
+  held_stays k (Target t) (Heard u f r) ok stays p = absurd ok
+  held_stays k (Target t) (Hold u l marked size seen) ok stays p = absurd ok
+  held_stays k (Target t) (Drop u l) ok stays p = absurd ok
+  held_stays k (Target t) (Pins name) ok stays p = absurd ok
+  held_stays k (Target t) (Unpins name) ok stays p = absurd ok
+  held_stays k (Target t) (Marks name) ok stays p = absurd ok
+  held_stays k (Target t) (Unmarks u) ok stays p = absurd ok
+  held_stays k _ _ ok stays p = p
+
+  facts_stay : (x : Fact) (node : Node) (e : Entry) → EntryOk past (turn stamp node) node e → gives_up c node e ≡ false → In x (facts_at c past) → In x (facts_at c (line (turn stamp node) e ∷ past))
   facts_stay x (Client d) (Learns t o a locks) ok stays i =
       cond_both (nat_eq c d) (taught o a locks ++ facts_at c past) (facts_at c past) (λ (v : List Fact). In x v)
       (λ q. in_right x (taught o a locks) (facts_at c past) i) (λ q. i)
@@ -158,10 +175,10 @@ module _ (c : ℕ) (past : List Line) (stamp : Stamp) where
   facts_stay x _ _ ok stays i = i
 
   -- a line gives a client more, unless a lock or the life is given up, or a pinned lock marked
-  pub notes_grow : (node : Node) (e : Entry) → BareOk past (turn stamp node) node e → Stays c past node e → Grows (bare_at c past) (bare_at c (line (turn stamp node) e ∷ past))
+  pub notes_grow : (node : Node) (e : Entry) → EntryOk past (turn stamp node) node e → Stays c past node e → Grows (bare_at c past) (bare_at c (line (turn stamp node) e ∷ past))
   notes_grow node e ok stays =
       grows_bare (facts_at c past) (facts_at c (line (turn stamp node) e ∷ past)) (held_at c past) (held_at c (line (turn stamp node) e ∷ past))
-      (λ x i. facts_stay x node e ok stays.0 i) (λ k p. held_stays 0 k node e ok stays p)
+      (λ x i. facts_stay x node e ok stays.0 i) (λ k p. held_stays k node e ok stays p)
 
   -- pins and unpins leave what can be used as it is
   pub pins_grow : (d : ℕ) (name : LockName) → Grows (notes_at c past) (notes_at c (line (turn stamp (Client d)) (Pins name) ∷ past))

@@ -1,39 +1,61 @@
--- The law of silent repeats holds of the printed past of every grown one that is settled: each call whose answer is known is known
--- by facts under held locks, or is a read or a stat of a file that has all its locks, so that it is told as it begins.
-use Rattle.std.proofs.Common.{◌≡◌, ℕ, ◌+◌, Bool, true, false, List, [], ◌∷◌, ◌++◌, ◌⊎◌, Option, Some, inl, inr, ⊎_elim, refl, sym, subst, ap, ◌∙◌}
+-- The law of silent repeats holds of the printed past of every grown one that is settled: each call whose answer is known, while its client holds no
+-- lock to write under, is known by facts under held locks, or is a read or a stat of a file of which all that it wants is known under such, so that
+-- it is told as it begins.
+use Rattle.std.proofs.Common.{◌≡◌, ℕ, ◌+◌, ◌-◌, ◌≤◌, Bool, true, false, List, [], ◌∷◌, ◌++◌, ◌⊎◌, Option, Some, None, inl, inr, ⊎_elim, refl, sym, subst, ap, ◌∙◌, arith}
 use Rattle.std.specs.Prelude.{nat_eq, not, ◌==◌, ◌&&◌, if◌then◌else◌, map, filter}
 use Rattle.std.specs.List.{list_any}
-use Rattle.std.proofs.lemmas.Bool.{cond_both, cond-true, and_parts, eqb-true}
+use Rattle.std.proofs.lemmas.Bool.{cond_both, cond-true, and_parts, eqb-true, not-true}
 use Rattle.lu_base.specs.declared.ids.At.{At}
+use Rattle.lu_base.specs.declared.ids.Fid.{Fid}
 use Rattle.lu_base.specs.declared.ids.Node.{Node}
 use Rattle.lu_base.specs.declared.ids.Node.TheVariants.{Client, Target}
 use Rattle.lu_base.specs.declared.ids.Stamp.{Stamp}
+use Rattle.lu_base.specs.declared.locks.Resource.{Resource}
+use Rattle.lu_base.specs.declared.ids.TargetId.{TargetId}
+use Rattle.lu_base.specs.declared.ids.Who.{Who}
 use Rattle.lu_base.specs.declared.locks.Lock.{Lock}
+use Rattle.lu_base.specs.declared.locks.Mode.TheVariants.{PW}
+use Rattle.lu_layout.specs.Raid0.{Raid0}
+use Rattle.lu_layout.specs.Sound.{IsLayout}
+use Rattle.lu_lock.specs.Growth.{the_end}
 use Rattle.lu_msg.specs.declared.answers.Answer.{Answer}
 use Rattle.lu_msg.specs.declared.answers.Answer.TheVariants as told
 use Rattle.lu_msg.specs.declared.answers.Errno.{Errno}
 use Rattle.lu_msg.specs.declared.answers.Errno.TheVariants.{EBADF, EIO}
 use Rattle.lu_msg.specs.declared.calls.Call.{Call}
 use Rattle.lu_msg.specs.declared.calls.Call.TheVariants as call
-use Rattle.lu_msg.specs.declared.messages.Reply.{Reply as ReplyTo}
+use Rattle.lu_msg.specs.declared.messages.Message.TheVariants as message
 use Rattle.lu_msg.specs.declared.operations.Op.{Op}
+use Rattle.lu_held.specs.declared.locks.Change.{Change}
+use Rattle.lu_held.specs.declared.locks.Change.TheVariants as of_held
+use Rattle.lu_held.specs.declared.locks.HeldLock.{HeldLock}
+use Rattle.lu_held.specs.declared.locks.Use.{Use}
 use Rattle.lu_held.specs.declared.names.LockName.{LockName}
+use Rattle.lu_held.specs.Locks.{is_named, after}
+use Rattle.lu_held.specs.Held.{serving, changed, used}
 use Rattle.lu_trace.specs.declared.entries.Entry.TheVariants as entry
 use Rattle.lu_trace.specs.declared.entries.Line.{Line as PrintedLine}
 use Rattle.lu_trace.specs.WellFormed.{IsCall}
 use Rattle.lu_machine.specs.Footprint.{Every}
 use Rattle.lu_machine.specs.Name.{same_name}
+use Rattle.lu_machine.specs.Tree.{no_file}
 use Rattle.lu_machine.proofs.Keys.{name_tells}
-use Rattle.lu_words.specs.Carried.{Work, Queued, Running, HandleFile, Answered, Unasked, Narrow, Wide, Stage, Plain, Bad, Enqueued, Came, Sizes}
-use Rattle.lu_words.specs.Words.{Entry, Begin, Told, Take, Drop, Life, Queues, Stands, Pins, Unpins, Marks, Line, line}
+use Rattle.lu_words.specs.declared.changes.Flush.{Flush}
+use Rattle.lu_words.specs.declared.uses.Using.{Using}
+use Rattle.lu_words.specs.Carried.{Work, Queued, Running, HandleFile, Unasked, Kind, Narrow, Wide, Writes, Cuts, Stats, Glimpses, Stage, Plain, Bad, Looks, Enqueued, Came, Forgotten, Gets, Flushing, Sizes}
+use Rattle.lu_words.specs.Words.{Entry, Begin, Told, Take, Drop, Life, Queues, Stands, Pins, Unpins, Marks, WritesBack, Line, line, turn_before}
 use Rattle.lu_words.specs.Sent.{count_sent}
 use Rattle.lu_words.specs.Printed.{printed_entry, printed}
 use Rattle.lu_client_rows.specs.Caches.{held_at}
 use Rattle.lu_client_rows.specs.Facts.{facts_at}
 use Rattle.lu_client_rows.specs.Known.{Notes}
+use Rattle.lu_client_rows.specs.Looks.{Page, missing, has_reached}
+use Rattle.lu_client_rows.specs.Recovery.{is_left_at}
+use Rattle.lu_client_rows.specs.States.{Store, store_at}
+use Rattle.lu_client_rows.specs.Stripes.{stripes}
 use Rattle.lu_client_rows.specs.Wants.{wants_of}
-use Rattle.lu_covered.specs.Calls.{call_at, operation_of, becomes, begun_file, file_at, file_for}
-use Rattle.lu_covered.specs.Heads.{Head}
+use Rattle.lu_covered.specs.Calls.{call_at, operation_of, begun_file, file_at, file_for, life_at}
+use Rattle.lu_covered.specs.Heads.{Head, IsHead}
 use Rattle.lu_covered.specs.Known.{notes_at, known_answer}
 use Rattle.lu_laws.specs.Holds.{Holds}
 use Rattle.lu_laws.specs.Laws.Silent.{is_told_silently, SilentAt, Silent}
@@ -42,35 +64,54 @@ use Rattle.lu_laws.specs.Words.Held.{held, has_write_lock}
 use Rattle.lu_laws.specs.Words.Lives.{life, who_is}
 use Rattle.lu_laws.specs.Words.Pasts.{same_turn}
 use Rattle.lu_laws.specs.Words.Repeats.{same_path, same_reading, rebinds, is_error, calm, told_calm, known, is_repeat}
-use Rattle.lu_guards.proofs.Guards.{In, Starts, StartsRead, StartsStat, NamesAskOk, SizeAskOk, Reads, LacksOf, Locked, ToldOk, KnownOk, EndsOk, BadOk}
-use Rattle.lu_guards.proofs.Lists.{self, in_filter}
-use Rattle.lu_guards.proofs.Turns.{BeginQuiet, Settled}
+use Rattle.lu_guards.proofs.Guards.{In, Later, Closes, Ending, Took, EntryOk, BeginOk, Begins, Starts, StartsRead, StartsStat, OfFlush, IsFlushing, OwesBegun, OwesStood, Owes, NamesAskOk, SizeAskOk, LockAskOk, GetAskOk, CallAsksOk, QueuesOk, WritesBackOk, ReadsOn, ChangesOn, UsesHeld, wanted_by, work_in, used_in, LacksOf, PinsSince, Narrowed, Wider, SizesStand, LeftSize, LockStand, StatStand, GetStand, FlushStand, LockBrought, LockGranted, Replied, MovedStand, StandsOk, TellsOk}
+use Rattle.lu_guards.proofs.Grown.{Allowed, Grown}
+use Rattle.lu_guards.proofs.HeedMarks.{owed_of}
+use Rattle.lu_guards.proofs.Heeds.{AllHeed, none_owed}
+use Rattle.lu_guards.proofs.Lists.{self, in_filter, turn_irreflexive}
+use Rattle.lu_guards.proofs.PinsFit.{PinsFit}
+use Rattle.lu_guards.proofs.Speaks.{AllSpeak}
+use Rattle.lu_guards.proofs.Turns.{BeginQuiet, StoodQuiet, Settled}
 use Rattle.lu_guards.proofs.ClientLooks.{lacks_in}
+use Rattle.lu_guards.proofs.ClientLocks.{changed_only, used_only, in_map}
 use Rattle.lu_facts.proofs.Groups.{turn}
-use Rattle.lu_facts.proofs.BareGuards.{BareBegins, BareLockAskOk, BareQueuesOk, BareSizesStand, BareLacks, BareLockStand, BareStatStand, BareStandsOk, BareSizesToldOk, BareReadToldOk, BareStatToldOk, BareFlushedOk, BareOwesBegun, BareOwes, BareAllowed, BareGrown, wide}
-use Rattle.lu_facts.proofs.HeldThere.{of_any, map_in}
+use Rattle.lu_facts.proofs.HeldThere.{There, of_any, map_in, changed_there, used_there}
 use Rattle.lu_facts.proofs.TaughtKnown.{Agrees}
+use Rattle.lu_object_map.specs.Lives.{is_over}
+use Rattle.lu_object_ties.proofs.OverLives.{over_ending}
 use Rattle.lu_lawful.proofs.Printed.{flip}
 use Rattle.lu_lawful.proofs.Lines.{OfPrinted, Keeps, shown, holds_owed}
 use Rattle.lu_lawful.proofs.Handles.{and_true}
+use Rattle.lu_lawful.proofs.SoundRuns.{over_before}
+use Rattle.lu_lawful.proofs.WritesHeld.{no_writes}
+use Rattle.lu_lawful.proofs.KnownPlaces.{Locks, ServedOf, LastOf, served_stay, places_with, reached_with}
+use Rattle.lu_lawful.proofs.KnownLooks.{served_again}
+use Rattle.lu_lawful.proofs.KnownAgain.{narrow_has, wide_has, narrow_reached}
+use Rattle.lu_lawful.proofs.UnmarkedStays.{held_on, on_held}
+use Rattle.lu_lawful.proofs.ToldKnown.{read_known, stat_known}
+use Rattle.lu_lawful.proofs.SilentWorlds.{NoWrites, Lasting, Free, ReadBy, KnownRead, read_stays}
 use Rattle.lu_lawful.proofs.SilentKnown.{Grows, IsKnown, IsReadingCall, known_more, known_told, told_known}
-use Rattle.lu_lawful.proofs.SilentHeld.{bare_at, MarksFree, Stays, Unmarked, grows_to_bare, grows_from_bare, notes_grow, pins_grow, unpins_grow}
+use Rattle.lu_lawful.proofs.SilentHeld.{bare_at, gives_up, MarksFree, Stays, Unmarked, lasts_clear, grows_to_bare, grows_from_bare, notes_grow, pins_grow, unpins_grow}
 use Rattle.lu_lawful.proofs.SilentOpens.{KeepsHandles, file_still}
 use Rattle.lu_lawful.proofs.SilentCalm.{called, call_is, begun_anew, marks_free, calm_stands, StandsIn, every_filter, every_both, every_in, in_every, every_map}
-use Rattle.lu_lawful.proofs.SilentReading.{KnownRead, ReadKnown, Free, files_at, locked_still, locked_free, free_pins, free_unpins, read_told, read_asks_none}
+use Rattle.lu_lawful.proofs.SilentReading.{ToRead, run_with, rest_with, last_wanted, calm_file}
 use Rattle.lu_lawful.proofs.SilentTaught.{told_is_known}
 use Rattle.lu_lawful.proofs.SilentAgrees.{agrees}
 use Rattle.lu_lawful.proofs.SilentServed.{repeats_unmarked}
 use Rattle.lu_lawful.proofs.SilentStats.{StatKnown, KnownBy, by_more, stat_told, stat_asks_none, stat_waits_none}
 
--- ---- each call whose answer is known is known by facts, or by locks on objects
+-- ---- each call whose answer is known is known by facts, or by what is known of bytes
 
 -- under locks that last
 abbrev KnownAt : ℕ → List Line → Call → Type 0
-KnownAt c past k = KnownBy (bare_at c past) (files_at c past) (Locked c past) k
+KnownAt c past k = KnownBy (bare_at c past) (KnownRead (Lasting c past) c past) (ServedOf (Lasting c past)) k
+
+-- while the client holds no lock to write under, and its life isn't over
+abbrev Promise : ℕ → List Line → Call → Type 0
+Promise c past k = NoWrites c past → is_over c (life_at c past) past ≡ false → KnownAt c past k
 
 abbrev ReadAt : ℕ → List Line → Call → Type 0
-ReadAt c past k = ReadKnown (files_at c past) (Locked c past) k
+ReadAt c past k = KnownRead (Lasting c past) c past k
 
 -- a call on names is no read
 names_read : (c : ℕ) (past : List Line) (file : Option HandleFile) (k : Call) (o : Op) → operation_of file k ≡ Some o → ReadAt c past k
@@ -84,36 +125,64 @@ known_read c past n k a e = tt
 no_refusal : (given : Answer) → is_error given ≡ false → (e : Errno) → given ≡ told.Refused e → ⊥
 no_refusal given fine e is = let error : is_error given ≡ true = ap is_error is in absurd (cc)
 
--- the call in the slot may be told
-abbrev MayTell : List Line → At → ℕ → ℕ → At → Answer → Option Work → Type 0
-MayTell past at c slot named given work =
-    ToldOk past at c slot named given work
-    ⊎ KnownOk past at c slot named given work
-    ⊎ EndsOk past at c slot named given work
-    ⊎ BadOk past at c slot named given work
-    ⊎ BareSizesToldOk past at c slot named given work
-    ⊎ BareFlushedOk past at c slot named given work
-    ⊎ BareReadToldOk past at c slot named given work
-    ⊎ BareStatToldOk past at c slot named given work
+-- a past of a run
+pub record Run (head : Head) (past : List Line) : Type 0 where
+  pub ranges : IsHead head
+  pub grown : Grown head past
+  pub pins : PinsFit past
+  pub heeds : AllHeed past
+  pub speaks : AllSpeak past
+
+before : (head : Head) (l : Line) (past : List Line) → Run head (l ∷ past) → Run head past
+before head l past y = record { ranges = y.ranges; grown = y.grown.1; pins = y.pins.1; heeds = y.heeds.1; speaks = y.speaks.1 }
+
+-- the life goes on over a line that gives up none
+life_same : (c : ℕ) (l : Line) (past : List Line) → gives_up c l.at.node l.entry ≡ false → life_at c (l ∷ past) ≡ life_at c past
+life_same c l past = by l.at.node l.entry
+  where
+    by : (node : Node) (e : Entry) → gives_up c node e ≡ false → life_at c (line (turn l.at.stamp node) e ∷ past) ≡ life_at c past
+    by (Client d) (Life who) e = ap (λ (b : Bool). if b then who else life_at c past) e
+    by (Target t) (Life who) e = refl
+    by node e q = refl
+
+alive_before : (c : ℕ) (l : Line) (past : List Line) → gives_up c l.at.node l.entry ≡ false → is_over c (life_at c (l ∷ past)) (l ∷ past) ≡ false → is_over c (life_at c past) past ≡ false
+alive_before c l past stays alive = over_before c (life_at c past) l past (subst (λ (w : Who). is_over c w (l ∷ past) ≡ false) (life_same c l past stays) alive)
 
 module _ (head : Head) (c : ℕ) where
   -- a line that gives up no lock and no life, and marks no pinned lock, keeps it, where it doesn't begin a call that opens or closes its handle
-  still : (past : List Line) (l : Line) → BareGrown head (l ∷ past) → Stays c past l.at.node l.entry → (k : Call) → KeepsHandles c l.at.node l.entry k → KnownAt c past k → KnownAt c (l ∷ past) k
-  still past l g stays k keeps =
-      by_more (bare_at c past) (bare_at c (l ∷ past)) (files_at c past) (files_at c (l ∷ past)) (Locked c past) (Locked c (l ∷ past)) k (notes_grow c past l.at.stamp l.at.node l.entry g.0.ok stays) (agrees head c (l ∷ past) (wide head (l ∷ past) g))
-      (λ h offset count f is bound. file_still head c h offset count l past f g stays.0 (subst (λ (v : Call). KeepsHandles c l.at.node l.entry v) is keeps) bound)
-      (λ u locked. locked_still head c l past u g stays locked)
+  lasting_stays : (past : List Line) (l : Line) → Grown head (l ∷ past) → Stays c past l.at.node l.entry → (t : ℕ) (k : Lock) → Lasting c past t k → Lasting c (l ∷ past) t k
+  lasting_stays past l g stays t k (h, i, target, lock, is) =
+      let m = on_held head c l past g stays h i is in
+      (m.0, m.1, ap (λ (v : TargetId). v.0) m.3 ∙ target, m.4 ∙ lock, m.2)
+
+  writes_before : (past : List Line) (l : Line) → Grown head (l ∷ past) → Stays c past l.at.node l.entry → NoWrites c (l ∷ past) → NoWrites c past
+  writes_before past l g stays none h i mode =
+      let m = held_on head c l past g stays h i in
+      none m.0 m.1 (ap (λ (v : Lock). v.ask.mode) m.3 ∙ mode)
+
+  known_still : (past : List Line) (l : Line) → Grown head (l ∷ past) → Stays c past l.at.node l.entry → (k : Call) → KeepsHandles c l.at.node l.entry k → KnownAt c past k → KnownAt c (l ∷ past) k
+  known_still past l g stays k keeps =
+      by_more (bare_at c past) (bare_at c (l ∷ past)) (ReadAt c past) (ReadAt c (l ∷ past)) (ServedOf (Lasting c past)) (ServedOf (Lasting c (l ∷ past))) k (notes_grow c past l.at.stamp l.at.node l.entry g.0.ok stays) (agrees head c (l ∷ past) g)
+      (read_stays (Lasting c past) (Lasting c (l ∷ past)) c l past (lasting_stays past l g stays) stays.0 k
+      (λ h offset count f is bound. file_still head c h offset count l past f g stays.0 (subst (λ (v : Call). KeepsHandles c l.at.node l.entry v) is keeps) bound))
+      (λ u locked. served_stay (Lasting c past) (Lasting c (l ∷ past)) u (lasting_stays past l g stays) locked)
+
+  still : (past : List Line) (l : Line) → Grown head (l ∷ past) → Stays c past l.at.node l.entry → (k : Call) → KeepsHandles c l.at.node l.entry k → Promise c past k → Promise c (l ∷ past) k
+  still past l g stays k keeps p none alive = known_still past l g stays k keeps (p (writes_before past l g stays none) (alive_before c l past stays.0 alive))
 
   -- the call that is told
-  told_one : (past : List Line) (at : At) (slot : ℕ) (named : At) (given : Answer) (work : Option Work) → BareGrown head past → at.node ≡ Client c → MayTell past at c slot named given work → is_error given ≡ false
-      → (x : ℕ × Call) → In x (calm (who_is c (printed past)) (printed past)) → x.0 ≡ slot → KnownAt c past x.1
-  told_one past at slot named given work g own ok fine x i is = by ok
+  told_one : (past : List Line) (at : At) (slot : ℕ) (named : At) (given : Answer) (work : Option Work) → Run head past → owed_of c past ≡ [] → at.node ≡ Client c → TellsOk past at c slot named given work → is_error given ≡ false
+      → (x : ℕ × Call) → In x (calm (who_is c (printed past)) (printed past)) → x.0 ≡ slot → Promise c past x.1
+  told_one past at slot named given work y owed own ok fine x i is none alive = by ok
     where
+      g : Grown head past
+      g = y.grown
+
       -- it is the call in the slot
       the_call : (r : Running) → call_at c slot past ≡ Some r → r.call ≡ x.1
       the_call r e =
-          let stands : call_in c x.0 (printed past) ≡ Some x.1 = every_in (StandsIn (λ k. call_in c k (printed past))) x (calm (who_is c (printed past)) (printed past)) (calm_stands head c past (wide head past g)) i in
-          let here : call_in c slot (printed past) ≡ Some r.call = call_is head c slot past (wide head past g) ∙ ap called e in
+          let stands : call_in c x.0 (printed past) ≡ Some x.1 = every_in (StandsIn (λ k. call_in c k (printed past))) x (calm (who_is c (printed past)) (printed past)) (calm_stands head c past g) i in
+          let here : call_in c slot (printed past) ≡ Some r.call = call_is head c slot past g ∙ ap called e in
           let there : call_in c slot (printed past) ≡ Some x.1 = subst (λ (v : ℕ). call_in c v (printed past) ≡ Some x.1) is stands in
           cc
 
@@ -121,40 +190,51 @@ module _ (head : Head) (c : ℕ) where
       other : (r : Running) → call_at c slot past ≡ Some r → IsKnown (bare_at c past) r.call → ReadAt c past r.call → KnownAt c past x.1
       other r e knows read = subst (λ (v : Call). KnownAt c past v) (the_call r e) (inl (knows, read))
 
-      by : MayTell past at c slot named given work → KnownAt c past x.1
-      by (inl a) = other a.running a.call (told_is_known head c slot past at named given work g (agrees head c past (wide head past g)) own a (no_refusal given fine) x i is) (names_read c past a.running.file a.running.call a.names.0 a.names.1)
+      by : TellsOk past at c slot named given work → KnownAt c past x.1
+      by (inl a) = other a.running a.call (told_is_known head c slot past at named given work g (agrees head c past g) own a (no_refusal given fine) x i is) (names_read c past a.running.file a.running.call a.names.0 a.names.1)
       by (inr (inl a)) =
-          other a.running a.call (known_more (notes_at c past) (bare_at c past) (grows_to_bare (facts_at c past) (held_at c past)) (agrees head c past (wide head past g)) a.running.call (told_known (notes_at c past) given a.running.call a.known))
+          other a.running a.call (known_more (notes_at c past) (bare_at c past) (grows_to_bare (facts_at c past) (held_at c past)) (agrees head c past g) a.running.call (told_known (notes_at c past) given a.running.call a.known))
           (known_read c past (notes_at c past) a.running.call given a.known)
       by (inr (inr (inl a))) = absurd (no_refusal given fine EIO a.of_answer)
       by (inr (inr (inr (inl a)))) = absurd (no_refusal given fine EBADF a.of_answer)
-      -- a glimpse or a flush is no reading
-      by (inr (inr (inr (inr (inl a))))) = subst (λ (v : Call). KnownAt c past v) (the_call a.running a.call) (subst (λ (v : Call). KnownAt c past v) (sym a.glimpses) (inl (tt, tt)))
+      -- a glimpse, a flush, a write or a cut is no reading
+      by (inr (inr (inr (inr (inl a))))) = subst (λ (v : Call). KnownAt c past v) (the_call a.running a.call) (subst (λ (v : Call). KnownAt c past v) (sym a.has.glimpses) (inl (tt, tt)))
       by (inr (inr (inr (inr (inr (inl a)))))) = subst (λ (v : Call). KnownAt c past v) (the_call a.running a.call) (subst (λ (v : Call). KnownAt c past v) (sym a.flushes) (inl (tt, tt)))
       by (inr (inr (inr (inr (inr (inr (inl a))))))) =
-          other a.running a.call (subst (λ (v : Call). IsKnown (bare_at c past) v) (sym a.read.reads) tt) (read_told head c slot past at named given work g a x i is (the_call a.running a.call))
-      by (inr (inr (inr (inr (inr (inr (inr a))))))) = subst (λ (v : Call). KnownAt c past v) (the_call a.running a.call) (inr (stat_told head c slot past at named given work g own a x i is))
+          other a.running a.call (subst (λ (v : Call). IsKnown (bare_at c past) v) (sym a.does.read.reads) tt)
+          (subst (λ (v : Call). ReadAt c past v) (sym a.does.read.reads)
+          (read_known head y.ranges past g y.pins y.heeds y.speaks c alive owed none at own slot named given work x i is a
+          (calm_file head c past g x i a.running (subst (λ (v : ℕ). call_at c v past ≡ Some a.running) (sym is) a.call) a.does.read.file a.does.read.of_file a.does.read.handle a.does.read.offset a.does.read.count
+          (sym (the_call a.running a.call) ∙ a.does.read.reads))))
+      by (inr (inr (inr (inr (inr (inr (inr (inl a)))))))) =
+          subst (λ (v : Call). KnownAt c past v) (the_call a.running a.call)
+          (inr (stat_told head c slot past at named given work g own a x i is (ServedOf (Lasting c past)) (stat_known head y.ranges past g y.pins y.heeds y.speaks c alive owed none at own slot named given work x i is a)))
+      by (inr (inr (inr (inr (inr (inr (inr (inr a)))))))) = subst (λ (v : Call). KnownAt c past v) (the_call a.running a.call) (wrote a.running a.done a.does)
+        where
+          wrote : (r : Running) (w : Work) → ChangesOn r w → KnownAt c past r.call
+          wrote r w (inl d) = subst (λ (v : Call). KnownAt c past v) (sym d.writes) (inl (tt, tt))
+          wrote r w (inr d) = subst (λ (v : Call). KnownAt c past v) (sym d.cuts) (inl (tt, tt))
 
   -- all that is told calm in the slot
-  told_all : (past : List Line) (at : At) (slot : ℕ) (named : At) (given : Answer) (work : Option Work) → BareGrown head past → at.node ≡ Client c → MayTell past at c slot named given work
-      → Every (KnownAt c past) (told_calm slot given (calm (who_is c (printed past)) (printed past)))
-  told_all past at slot named given work g own ok = by (is_error given) refl
+  told_all : (past : List Line) (at : At) (slot : ℕ) (named : At) (given : Answer) (work : Option Work) → Run head past → owed_of c past ≡ [] → at.node ≡ Client c → TellsOk past at c slot named given work
+      → Every (Promise c past) (told_calm slot given (calm (who_is c (printed past)) (printed past)))
+  told_all past at slot named given work y owed own ok = by (is_error given) refl
     where
       P : List (ℕ × Call)
       P = calm (who_is c (printed past)) (printed past)
 
-      by : (b : Bool) → is_error given ≡ b → Every (KnownAt c past) (if b then [] else map (λ s. s.1) (filter (λ s. s.0 == slot) P))
+      by : (b : Bool) → is_error given ≡ b → Every (Promise c past) (if b then [] else map (λ s. s.1) (filter (λ s. s.0 == slot) P))
       by true e = tt
       by false e =
-          in_every (KnownAt c past) (map (λ s. s.1) (filter (λ s. s.0 == slot) P))
+          in_every (Promise c past) (map (λ s. s.1) (filter (λ s. s.0 == slot) P))
           (λ k i.
           let m = map_in (λ (s : ℕ × Call). s.1) k (filter (λ s. s.0 == slot) P) i in
           let f = in_filter (λ (s : ℕ × Call). s.0 == slot) m.0 P m.1.0 in
-          subst (λ (v : Call). KnownAt c past v) m.1.1 (told_one past at slot named given work g own ok e m.0 f.0 (eqb-true m.0.0 slot f.1)))
+          subst (λ (v : Call). Promise c past v) m.1.1 (told_one past at slot named given work y owed own ok e m.0 f.0 (eqb-true m.0.0 slot f.1)))
 
   -- a call that begins: those that stay known are on other handles than it opens or closes
-  begun_known : (past : List Line) (stamp : Stamp) (d s : ℕ) (running : Running) → BareGrown head (line (turn stamp (Client d)) (Begin s running) ∷ past) → (t : Bool) → nat_eq d c ≡ t → (old : List Call) → Every (KnownAt c past) old
-      → Every (KnownAt c (line (turn stamp (Client d)) (Begin s running) ∷ past)) (if t then filter (λ known. not (rebinds running.call known)) old else old)
+  begun_known : (past : List Line) (stamp : Stamp) (d s : ℕ) (running : Running) → Grown head (line (turn stamp (Client d)) (Begin s running) ∷ past) → (t : Bool) → nat_eq d c ≡ t → (old : List Call) → Every (Promise c past) old
+      → Every (Promise c (line (turn stamp (Client d)) (Begin s running) ∷ past)) (if t then filter (λ known. not (rebinds running.call known)) old else old)
   begun_known past stamp d s running g true e old h =
       every_filter (λ known. not (rebinds running.call known)) (λ k is q. still past (line (turn stamp (Client d)) (Begin s running)) g (refl, tt) k (λ t. no (rebinds running.call k) is) q) old h
     where
@@ -162,20 +242,20 @@ module _ (head : Head) (c : ℕ) where
       no true e = absurd (cc)
       no false e = refl
   begun_known past stamp d s running g false e old h =
-      every_map (KnownAt c past) (KnownAt c (line (turn stamp (Client d)) (Begin s running) ∷ past)) old
+      every_map (Promise c past) (Promise c (line (turn stamp (Client d)) (Begin s running) ∷ past)) old
       (λ k q. still past (line (turn stamp (Client d)) (Begin s running)) g (refl, tt) k (λ t. let both : true ≡ false = sym t ∙ flip c d ∙ e in absurd (cc)) q) h
 
-  gone : (past : List Line) (t : Bool) (old : List Call) → (t ≡ false → Every (KnownAt c past) old) → Every (KnownAt c past) (if t then [] else old)
+  gone : (past : List Line) (t : Bool) (old : List Call) → (t ≡ false → Every (Promise c past) old) → Every (Promise c past) (if t then [] else old)
   gone past true old h = tt
   gone past false old h = h refl
 
-  more_known : (past : List Line) (t : Bool) (more old : List Call) → (t ≡ true → Every (KnownAt c past) more) → Every (KnownAt c past) old → Every (KnownAt c past) (if t then more ++ old else old)
-  more_known past true more old h k = every_both (KnownAt c past) more old (h refl) k
+  more_known : (past : List Line) (t : Bool) (more old : List Call) → (t ≡ true → Every (Promise c past) more) → Every (Promise c past) old → Every (Promise c past) (if t then more ++ old else old)
+  more_known past true more old h k = every_both (Promise c past) more old (h refl) k
   more_known past false more old h k = k
 
-  pub known_is_known : (past : List Line) → BareGrown head past → Every (KnownAt c past) (known (who_is c (printed past)) (printed past))
-  known_is_known [] g = tt
-  known_is_known (l ∷ past) g = by l.at.node l.entry g (known_is_known past g.1)
+  pub known_is_known : (past : List Line) → Run head past → Every (Promise c past) (known (who_is c (printed past)) (printed past))
+  known_is_known [] y = tt
+  known_is_known (l ∷ past) y = by l.at.node l.entry y (known_is_known past (before head l past y))
     where
       own : nat_eq (life c (printed past)) (life c (printed past)) ≡ true
       own = self (life c (printed past))
@@ -183,41 +263,42 @@ module _ (head : Head) (c : ℕ) where
       P : List Call
       P = known (who_is c (printed past)) (printed past)
 
-      after_line : (node : Node) (e : Entry) → BareGrown head (line (turn l.at.stamp node) e ∷ past) → Stays c past node e → ((k : Call) → KeepsHandles c node e k) → (xs : List Call)
-          → Every (KnownAt c past) xs → Every (KnownAt c (line (turn l.at.stamp node) e ∷ past)) xs
-      after_line node e g stays keeps xs h = every_map (KnownAt c past) (KnownAt c (line (turn l.at.stamp node) e ∷ past)) xs (λ k q. still past (line (turn l.at.stamp node) e) g stays k (keeps k) q) h
+      after_line : (node : Node) (e : Entry) → Grown head (line (turn l.at.stamp node) e ∷ past) → Stays c past node e → ((k : Call) → KeepsHandles c node e k) → (xs : List Call)
+          → Every (Promise c past) xs → Every (Promise c (line (turn l.at.stamp node) e ∷ past)) xs
+      after_line node e g stays keeps xs h = every_map (Promise c past) (Promise c (line (turn l.at.stamp node) e ∷ past)) xs (λ k q. still past (line (turn l.at.stamp node) e) g stays k (keeps k) q) h
 
-      by : (node : Node) (e : Entry) → BareGrown head (line (turn l.at.stamp node) e ∷ past) → Every (KnownAt c past) P
-          → Every (KnownAt c (line (turn l.at.stamp node) e ∷ past)) (known (who_is c (printed (line (turn l.at.stamp node) e ∷ past))) (printed (line (turn l.at.stamp node) e ∷ past)))
-      by (Client d) (Begin s running) g h = rw (own, and_true (nat_eq d c)) (begun_known past l.at.stamp d s running g (nat_eq d c) refl P h)
-      by (Client d) (Told s named given work) g h =
+      by : (node : Node) (e : Entry) → Run head (line (turn l.at.stamp node) e ∷ past) → Every (Promise c past) P
+          → Every (Promise c (line (turn l.at.stamp node) e ∷ past)) (known (who_is c (printed (line (turn l.at.stamp node) e ∷ past))) (printed (line (turn l.at.stamp node) e ∷ past)))
+      by (Client d) (Begin s running) y h = rw (own, and_true (nat_eq d c)) (begun_known past l.at.stamp d s running y.grown (nat_eq d c) refl P h)
+      by (Client d) (Told s named given work) y h =
           rw (own, and_true (nat_eq d c))
           (more_known (line (turn l.at.stamp (Client d)) (Told s named given work) ∷ past) (nat_eq d c) (told_calm s given (calm (who_is c (printed past)) (printed past))) P
           (λ t.
           let same : d ≡ c = eqb-true d c t in
-          after_line (Client d) (Told s named given work) g (refl, tt) (λ k. tt) (told_calm s given (calm (who_is c (printed past)) (printed past)))
-          (told_all past (turn l.at.stamp (Client d)) s named given work g.1 (ap Client same)
-          (subst (λ (v : ℕ). MayTell past (turn l.at.stamp (Client d)) v s named given work) same g.0.ok)))
-          (after_line (Client d) (Told s named given work) g (refl, tt) (λ k. tt) P h))
-      by (Client d) (Drop t x) g h =
+          after_line (Client d) (Told s named given work) y.grown (refl, tt) (λ k. tt) (told_calm s given (calm (who_is c (printed past)) (printed past)))
+          (told_all past (turn l.at.stamp (Client d)) s named given work (before head (line (turn l.at.stamp (Client d)) (Told s named given work)) past y)
+          (none_owed c past (line (turn l.at.stamp (Client d)) (Told s named given work)) (y.heeds.0 c) (λ z. z)) (ap Client same)
+          (subst (λ (v : ℕ). TellsOk past (turn l.at.stamp (Client d)) v s named given work) same y.grown.0.ok)))
+          (after_line (Client d) (Told s named given work) y.grown (refl, tt) (λ k. tt) P h))
+      by (Client d) (Drop t x) y h =
           rw (own, and_true (nat_eq d c))
-          (gone (line (turn l.at.stamp (Client d)) (Drop t x) ∷ past) (nat_eq d c) P (λ f. after_line (Client d) (Drop t x) g (flip c d ∙ f, tt) (λ k. tt) P h))
-      by (Client d) (Take n from m) g h = gone (line (turn l.at.stamp (Client d)) (Take n from m) ∷ past) _ P (λ f. after_line (Client d) (Take n from m) g (refl, tt) (λ k. tt) P h)
-      by (Client d) (Life w) g h =
+          (gone (line (turn l.at.stamp (Client d)) (Drop t x) ∷ past) (nat_eq d c) P (λ f. after_line (Client d) (Drop t x) y.grown (flip c d ∙ f, tt) (λ k. tt) P h))
+      by (Client d) (Take n from m) y h = gone (line (turn l.at.stamp (Client d)) (Take n from m) ∷ past) _ P (λ f. after_line (Client d) (Take n from m) y.grown (refl, tt) (λ k. tt) P h)
+      by (Client d) (Life w) y h =
           cond_both (nat_eq d c) w.life (life c (printed past))
-          (λ (v : ℕ). Every (KnownAt c (line (turn l.at.stamp (Client d)) (Life w) ∷ past)) (known (record { client = c; life = v }) (printed past)))
-          (λ t. subst (λ (v : List Call). Every (KnownAt c (line (turn l.at.stamp (Client d)) (Life w) ∷ past)) v) (sym (begun_anew head c d w past (turn l.at.stamp (Client d)) (wide head past g.1) g.0.ok t).1) tt)
-          (λ f. after_line (Client d) (Life w) g (flip c d ∙ f, tt) (λ k. tt) P h)
-      by (Client d) (Marks name) g h = ⊎_elim
-          (λ (free : MarksFree c past (Client d) (Marks name)). after_line (Client d) (Marks name) g (refl, free) (λ k. tt) P h)
-          (λ (none : (calm (who_is c (printed past)) (printed past) ≡ []) × (P ≡ [])). subst (λ (v : List Call). Every (KnownAt c (line (turn l.at.stamp (Client d)) (Marks name) ∷ past)) v) (sym none.1) tt)
-          (marks_free head c past l.at.stamp d name (wide head past g.1) g.0.ok)
-      by (Target u) (Begin s running) g h = absurd g.0.ok
-      by (Target u) (Told s named given work) g h = absurd g.0.ok
-      by (Target u) (Drop v x) g h = absurd g.0.ok
-      by (Target u) (Life w) g h = absurd g.0.ok
-      by (Target u) (Take n from m) g h = after_line (Target u) (Take n from m) g (refl, tt) (λ k. tt) P h
-      by node e g h = after_line node e g (refl, tt) (λ k. tt) P h
+          (λ (v : ℕ). Every (Promise c (line (turn l.at.stamp (Client d)) (Life w) ∷ past)) (known (record { client = c; life = v }) (printed past)))
+          (λ t. subst (λ (v : List Call). Every (Promise c (line (turn l.at.stamp (Client d)) (Life w) ∷ past)) v) (sym (begun_anew head c d w past (turn l.at.stamp (Client d)) y.grown.1 y.grown.0.ok t).1) tt)
+          (λ f. after_line (Client d) (Life w) y.grown (flip c d ∙ f, tt) (λ k. tt) P h)
+      by (Client d) (Marks name) y h = ⊎_elim
+          (λ (free : MarksFree c past (Client d) (Marks name)). after_line (Client d) (Marks name) y.grown (refl, free) (λ k. tt) P h)
+          (λ (none : (calm (who_is c (printed past)) (printed past) ≡ []) × (P ≡ [])). subst (λ (v : List Call). Every (Promise c (line (turn l.at.stamp (Client d)) (Marks name) ∷ past)) v) (sym none.1) tt)
+          (marks_free head c past l.at.stamp d name y.grown.1 y.grown.0.ok)
+      by (Target u) (Begin s running) y h = absurd y.grown.0.ok
+      by (Target u) (Told s named given work) y h = absurd y.grown.0.ok
+      by (Target u) (Drop v x) y h = absurd y.grown.0.ok
+      by (Target u) (Life w) y h = absurd y.grown.0.ok
+      by (Target u) (Take n from m) y h = after_line (Target u) (Take n from m) y.grown (refl, tt) (λ k. tt) P h
+      by node e y h = after_line node e y.grown (refl, tt) (λ k. tt) P h
 
 -- ---- a call that repeats one whose answer is known
 
@@ -264,30 +345,207 @@ rebinds_self _ = refl
 agrees_too : (n k : Notes) → Grows n k → Agrees k → Agrees n
 agrees_too n k more a d m f g u v = a d m f g (more f u) (more g v)
 
+-- it goes on
+abbrev StandsFor : ℕ → Entry → Type 0
+StandsFor slot (Stands s running) = s ≡ slot
+StandsFor slot _ = ⊥
+
+abbrev IsStatCall : Call → Type 0
+IsStatCall (call.Stat path) = Unit {0}
+IsStatCall _ = ⊥
+
+-- what a call of which something is due may be followed by
+abbrev Follows : Running → ℕ → Entry → Type 0
+Follows r slot e =
+    ((r.stage ≡ Bad) × Starts slot Bad e) ⊎ ((r.stage ≡ Plain) × Starts slot Plain e) ⊎ ((r.stage ≡ Plain) × IsReadCall r.call × StartsRead slot e) ⊎ ((r.stage ≡ Plain) × IsStatCall r.call × StandsFor slot e)
+    ⊎ ((r.stage ≡ Plain) × OfFlush e)
+
+stat_starts : (slot : ℕ) (e : Entry) → StartsStat slot e → Starts slot Plain e ⊎ StandsFor slot e
+stat_starts slot (Stands s running) h = inr h
+stat_starts slot e h = inl h
+
+reading_owes : (same : Type 0) (k : Call) (slot : ℕ) (e : Entry) → IsReadingCall k → OwesBegun same slot Plain k e → same × ((Starts slot Plain e ⊎ (IsStatCall k × StandsFor slot e)) ⊎ OfFlush e)
+reading_owes same (call.Lookup path) slot e reads o = (o.0, ⊎_elim (λ (s : Starts slot Plain e). inl (inl s)) (λ (s : OfFlush e). inr s) o.1)
+reading_owes same (call.List path) slot e reads o = (o.0, ⊎_elim (λ (s : Starts slot Plain e). inl (inl s)) (λ (s : OfFlush e). inr s) o.1)
+reading_owes same (call.Layout path) slot e reads o = (o.0, ⊎_elim (λ (s : Starts slot Plain e). inl (inl s)) (λ (s : OfFlush e). inr s) o.1)
+reading_owes same (call.Stat path) slot e reads o =
+    (o.0, ⊎_elim (λ (s : StartsStat slot e). inl (⊎_elim (λ (z : Starts slot Plain e). inl z) (λ (z : StandsFor slot e). inr (tt, z)) (stat_starts slot e s))) (λ (s : OfFlush e). inr s) o.1)
+reading_owes same k slot e reads o = absurd reads
+
+read_owes : (same : Type 0) (k : Call) (slot : ℕ) (e : Entry) → IsReadCall k → OwesBegun same slot Plain k e → same × (StartsRead slot e ⊎ OfFlush e)
+read_owes same (call.Read h offset count) slot e reads o = o
+read_owes same k slot e reads o = absurd reads
+
+no_read_call : (k q : Call) → k ≡ q → IsReadCall k → (IsReadCall q → ⊥) → ⊥
+no_read_call k q e r n = n (subst IsReadCall e r)
+
+no_stat_call : (k q : Call) → k ≡ q → IsStatCall k → (IsStatCall q → ⊥) → ⊥
+no_stat_call k q e r n = n (subst IsStatCall e r)
+
+-- of no file nothing is wanted, nor is anything missing of it
+none_wanted : (l : Raid0) (fid : Fid) (kind : Kind) → l ≡ no_file.layout → wants_of l fid kind ≡ []
+none_wanted l fid kind e = subst (λ (v : Raid0). wants_of v fid kind ≡ []) (sym e) (by kind)
+  where
+    by : (k : Kind) → wants_of no_file.layout fid k ≡ []
+    by (Narrow p n) = refl
+    by (Wide p n) = refl
+    by (Writes p bs) = refl
+    by (Cuts n) = refl
+    by (Stats mode links) = refl
+    by (Glimpses sizes) = refl
+
+none_in : (w : Use) (l : Raid0) (fid : Fid) (kind : Kind) → l ≡ no_file.layout → In w (wants_of l fid kind) → ⊥
+none_in w l fid kind e i = subst (λ (ws : List Use). In w ws) (none_wanted l fid kind e) i
+
+none_missing : (l : Raid0) (p end : ℕ) (s : Store) (us : List Using) → map (λ (u : Using). u.want) us ≡ [] → missing l p end s us ≡ None
+none_missing l p end s [] e = refl
+none_missing l p end s (u ∷ us) e = absurd (cc)
+
+clash_of : (b : Bool) → b ≡ true → b ≡ false → ⊥
+clash_of b e f = let both : true ≡ false = sym e ∙ f in cc
+
+-- what is wanted is that of a use
+mapped_in : (w : Use) (us : List Using) → In w (map (λ (u : Using). u.want) us) → (u : Using) × In u us × (u.want ≡ w)
+mapped_in w [] i = absurd i
+mapped_in w (u ∷ us) (inl e) = (u, inl refl, e)
+mapped_in w (u ∷ us) (inr i) = let m = mapped_in w us i in (m.0, inr m.1, m.2)
+
+-- a call that has just begun isn't moved by a message, nor is it at work
+plain_no_work : (s : Stage) (w : Work) → s ≡ Plain → work_in s ≡ Some w → ⊥
+plain_no_work s w p e = let q : None ≡ Some w = sym (ap work_in p) ∙ e in cc
+
+never_moved : (past : List Line) (at : At) (c : ℕ) (r : Running) (stage : Stage) → r.stage ≡ Plain → MovedStand past at c r stage → ⊥
+never_moved past at c r stage plain (inl h) = ⊎_elim (λ (k : LockBrought past at r h.work h.lock). plain_no_work r.stage h.work plain (ap work_in k.stage)) (λ (k : LockGranted past at r h.work h.lock). plain_no_work r.stage h.work plain (ap work_in k.stage)) h.from
+never_moved past at c r stage plain (inr (inl h)) = plain_no_work r.stage h.work plain (ap work_in h.before)
+never_moved past at c r stage plain (inr (inr (inl h))) = plain_no_work r.stage h.work plain (ap work_in h.before)
+never_moved past at c r stage plain (inr (inr (inr (inl h)))) = plain_no_work r.stage h.work plain (ap work_in h.before)
+never_moved past at c r stage plain (inr (inr (inr (inr h)))) = ⊎_elim
+    (λ (k : (r.stage ≡ Forgotten h.work) × ((t : ℕ) × (who : Who) × (boot committed : ℕ) × Took past at (Target t) (message.Ready who boot (record { 0 = committed })) × (is_left_at t h.work.left ≡ true))). plain_no_work r.stage h.work plain (ap work_in k.0))
+    (λ (k : (r.stage ≡ Gets h.work) × Replied past at r). plain_no_work r.stage h.work plain (ap work_in k.0)) h.from
+
+-- ---- from the begin of a call a client only pins and unpins, and a flush waits on
+
+abbrev IsIdle : Entry → Type 0
+IsIdle (Pins name) = Unit {0}
+IsIdle (Unpins name) = Unit {0}
+IsIdle (Stands slot running) = IsFlushing running.stage
+IsIdle _ = ⊥
+
+abbrev Since : List Line → List Line → Type 0
+Since past [] = past ≡ []
+Since past (n ∷ now) = (past ≡ n ∷ now) ⊎ (IsIdle n.entry × Since past now)
+
+since_self : (past : List Line) → Since past past
+since_self [] = refl
+since_self (l ∷ past) = inl refl
+
+first_is : (l n : Line) (past now : List Line) → l ∷ past ≡ n ∷ now → l ≡ n
+first_is l n past now e = cc
+
+rest_is : (l n : Line) (past now : List Line) → l ∷ past ≡ n ∷ now → past ≡ now
+rest_is l n past now e = cc
+
+-- one line less
+since_less : (l : Line) (past now : List Line) → IsIdle l.entry → Since (l ∷ past) now → Since past now
+since_less l past [] idle e = absurd (cc)
+since_less l past (n ∷ now) idle (inl e) = inr (subst (λ (x : Line). IsIdle x.entry) (first_is l n past now e) idle, subst (Since past) (rest_is l n past now e) (since_self past))
+since_less l past (n ∷ now) idle (inr k) = inr (k.0, since_less l past now idle k.1)
+
+-- what the newest line must be for that
+abbrev Pinned : List Line → List Line → Entry → Type 0
+Pinned before now y = elim y [ Pins name ↦ PinsSince before now | Unpins name ↦ PinsSince before now | _ ↦ ⊥ ]
+
+pins_idle : (before now : List Line) → PinsSince before now → Since before now
+pins_idle before [] e = e
+pins_idle before (n ∷ now) (inl e) = inl e
+pins_idle before (n ∷ now) (inr k) = by n.entry k (λ v. pins_idle before now v)
+  where
+    by : (y : Entry) → Pinned before now y → (PinsSince before now → Since before now) → (before ≡ n ∷ now) ⊎ (IsIdle y × Since before now)
+    by (Pins name) k more = inr (tt, more k)
+    by (Unpins name) k more = inr (tt, more k)
+    by y k more = absurd k
+
+-- of two such pasts the one that ends with the begin comes first
+since_between : (b : Line) (past before now : List Line) → (IsIdle b.entry → ⊥) → Since (b ∷ past) now → Since before now → Since (b ∷ past) before
+since_between b past before [] none e f = absurd (cc)
+since_between b past before (n ∷ now) none e (inl f) = subst (Since (b ∷ past)) (sym f) e
+since_between b past before (n ∷ now) none (inl e) (inr f) = absurd (none (subst (λ (x : Line). IsIdle x.entry) (sym (first_is b n past now e)) f.0))
+since_between b past before (n ∷ now) none (inr e) (inr f) = since_between b past before now none e.1 f.1
+
+-- of what stands by then, what it stood for before
+abbrev Over : Stage → Type 0 → Type 0
+Over (Flushing stripe) A = A
+Over _ A = Unit {0}
+
+over_in : (stage : Stage) (A : Type 0) → (IsFlushing stage → A) → Over stage A
+over_in (Flushing stripe) A f = f tt
+over_in stage A f = tt
+
+over_out : (stage : Stage) (A : Type 0) → IsFlushing stage → Over stage A → A
+over_out (Flushing stripe) A i a = a
+over_out stage A i a = absurd i
+
+flushing_or : (stage : Stage) → IsFlushing stage ⊎ (IsFlushing stage → ⊥)
+flushing_or (Flushing stripe) = inl tt
+flushing_or stage = inr (λ i. i)
+
+stood_owes : (same Before : Type 0) (slot : ℕ) (stage : Stage) (e : Entry) → IsFlushing stage → OwesStood same slot stage Before e → Before
+stood_owes same Before slot (Flushing stripe) e i o = o
+stood_owes same Before slot stage e i o = absurd i
+
+stood_settled : (stage : Stage) (A : Type 0) → IsFlushing stage → StoodQuiet stage A → A
+stood_settled (Flushing stripe) A i q = q
+stood_settled stage A i q = absurd i
+
+-- a held lock of that, not called back
+abbrev IsFreeOf : Lock → HeldLock → Type 0
+IsFreeOf k h = (h.lock ≡ k) × (h.marked ≡ false)
+
+there : (c : ℕ) (past : List Line) (t : ℕ) (k : Lock) → Free c past t k → There (IsFreeOf k) t k.cookie.0 (held_at c past)
+there c past t k (h, i, target, lock, free) = (h, (i, ((target, ap (λ (v : Lock). v.cookie.0) lock), (lock, free))))
+
+none_changed : (name : LockName) (what : Change) (held : List HeldLock) → ((x : HeldLock) → (after what x).lock ≡ x.lock) → ((h : HeldLock) → In h held → h.lock.ask.mode ≡ PW → ⊥) → (h : HeldLock) → In h (changed name what held) → h.lock.ask.mode ≡ PW → ⊥
+none_changed name what held same none h i = by (changed_only name what h held i)
+  where
+    by : (x : HeldLock) × In x held × ((if is_named name x then after what x else x) ≡ h) → h.lock.ask.mode ≡ PW → ⊥
+    by m = subst (λ (v : HeldLock). v.lock.ask.mode ≡ PW → ⊥) m.2 (cond_both (is_named name m.0) (after what m.0) m.0 (λ (v : HeldLock). v.lock.ask.mode ≡ PW → ⊥) (λ t e. none m.0 m.1 (ap (λ (l : Lock). l.ask.mode) (sym (same m.0)) ∙ e)) (λ t. none m.0 m.1))
+
 module _ (head : Head) where
   -- as it is, a client knows it: no lock is marked under which it does
   abbrev KnownNow : ℕ → List Line → Call → Type 0
-  KnownNow c past k = KnownBy (notes_at c past) (files_at c past) (Free head c past) k
+  KnownNow c past k = KnownBy (notes_at c past) (KnownRead (Free c past) c past) (ServedOf (Free c past)) k
 
-  agrees_now : (c : ℕ) (past : List Line) → BareGrown head past → Agrees (notes_at c past)
-  agrees_now c past g = agrees_too (notes_at c past) (bare_at c past) (grows_to_bare (facts_at c past) (held_at c past)) (agrees head c past (wide head past g))
+  agrees_now : (c : ℕ) (past : List Line) → Grown head past → Agrees (notes_at c past)
+  agrees_now c past g = agrees_too (notes_at c past) (bare_at c past) (grows_to_bare (facts_at c past) (held_at c past)) (agrees head c past g)
 
   -- so it does where no lock is marked that isn't pinned
-  known_clear : (c : ℕ) (past : List Line) (k : Call) → BareGrown head past → Unmarked (held_at c past) → KnownAt c past k → KnownNow c past k
+  free_of : (c : ℕ) (past : List Line) → Unmarked (held_at c past) → (t : ℕ) (k : Lock) → Lasting c past t k → Free c past t k
+  free_of c past calm t k (h, i, target, lock, is) = (h, i, target, lock, lasts_clear (held_at c past) calm h i is.0)
+
+  read_with : (c : ℕ) (past : List Line) (L M : Locks) (k : Call) → ((t : ℕ) (x : Lock) → L t x → M t x) → KnownRead L c past k → KnownRead M c past k
+  read_with c past L M (call.Read h p n) more k =
+      record {
+        file = k.file;
+        bound = k.bound;
+        good = k.good;
+        some = k.some;
+        limit = k.limit;
+        places = places_with L M c past more k.file.layout k.file.fid p n k.places;
+        served = λ w i. served_stay L M w more (k.served w i);
+        last = ⊎_elim (λ (q : LastOf L c past k.file.layout k.file.fid p (p + n - 1)). inl (reached_with L M c past more _ _ _ _ q))
+            (λ (q : (w : Use) → In w (wants_of k.file.layout k.file.fid (Wide p n)) → ServedOf L w). inr (λ w i. served_stay L M w more (q w i))) k.last;
+      }
+  read_with c past L M k more h = tt
+
+  known_clear : (c : ℕ) (past : List Line) (k : Call) → Grown head past → Unmarked (held_at c past) → KnownAt c past k → KnownNow c past k
   known_clear c past k g calm =
-      by_more (bare_at c past) (notes_at c past) (files_at c past) (files_at c past) (Locked c past) (Free head c past) k (grows_from_bare (facts_at c past) (held_at c past) calm) (agrees_now c past g)
-      (λ h offset count f is bound. bound) (λ u locked. locked_free head c past u g calm locked)
+      by_more (bare_at c past) (notes_at c past) (KnownRead (Lasting c past) c past) (KnownRead (Free c past) c past) (ServedOf (Lasting c past)) (ServedOf (Free c past)) k (grows_from_bare (facts_at c past) (held_at c past) calm) (agrees_now c past g)
+      (read_with c past (Lasting c past) (Free c past) k (free_of c past calm)) (λ u locked. served_stay (Lasting c past) (Free c past) u (free_of c past calm) locked)
 
-  -- what is known of a client stays from there till now, and so do its calls and handles
-  record Since (c : ℕ) (now past : List Line) : Type 0 where
-    calls : (slot : ℕ) → call_at c slot now ≡ call_at c slot past
-    files : (h : ℕ) → file_at c h now ≡ file_at c h past
-    knows : (k : Call) → KnownNow c past k → KnownNow c now k
-
-  -- where the newest line began a call that is known while no lock is marked that isn't pinned, or one on a bad handle, but for what it pins and
-  -- unpins, it is told in the lines to come before anything is sent
+  -- where the newest line began a call that is known while no lock is marked that isn't pinned and none to write under is held, or one on a bad
+  -- handle, but for what it pins and unpins, it is told in the lines to come before anything is sent
   abbrev IsDue : ℕ → List Line → Running → Type 0
-  IsDue c past running = (running.stage ≡ Bad) ⊎ (MayKnow running.call × KnownAt c past running.call × Unmarked (held_at c past))
+  IsDue c past running = (running.stage ≡ Bad) ⊎ (MayKnow running.call × KnownAt c past running.call × Unmarked (held_at c past) × NoWrites c past × (is_over c (life_at c past) past ≡ false))
 
   abbrev Due : List Line → List PrintedLine → Type 0
   Due [] later = Unit {0}
@@ -296,6 +554,7 @@ module _ (head : Head) where
         | Begin slot running ↦ (c : ℕ) → l.at.node ≡ Client c → IsDue c past running → is_told_silently slot l.at later ≡ true
         | Pins name ↦ Due past later
         | Unpins name ↦ Due past later
+        | Stands slot running ↦ Over running.stage (Due past later)
         | _ ↦ Unit {0}
       ]
 
@@ -303,26 +562,23 @@ module _ (head : Head) where
   nothing_due [] s = tt
   nothing_due (l ∷ past) s = by l.entry s (nothing_due past)
     where
-      none : ⊥ ⊎ ⊥ → ⊥
-      none (inl r) = r
-      none (inr r) = r
-
       quiet : (stage : Stage) (k : Call) → BeginQuiet stage k → MayKnow k → ⊥
       quiet Bad k q r = q
-      quiet stage (call.Close h) q r = none r
-      quiet stage (call.Write h offset bytes) q r = none r
-      quiet stage (call.Cut h size) q r = none r
-      quiet stage (call.Flush h) q r = none r
-      quiet stage (call.Glimpse h) q r = none r
+      quiet stage (call.Close h) q r = ⊎_elim (λ (n : ⊥). n) (λ (n : ⊥). n) r
+      quiet stage (call.Write h offset bytes) q r = ⊎_elim (λ (n : ⊥). n) (λ (n : ⊥). n) r
+      quiet stage (call.Cut h size) q r = ⊎_elim (λ (n : ⊥). n) (λ (n : ⊥). n) r
+      quiet stage (call.Flush h) q r = ⊎_elim (λ (n : ⊥). n) (λ (n : ⊥). n) r
+      quiet stage (call.Glimpse h) q r = ⊎_elim (λ (n : ⊥). n) (λ (n : ⊥). n) r
       quiet stage k q r = q
 
       by : (e : Entry) → Settled (line l.at e ∷ past) → (Settled past → Due past []) → Due (line l.at e ∷ past) []
       by (Begin slot running) s more = λ c own due. ⊎_elim
           (λ (bad : running.stage ≡ Bad). absurd (subst (λ (v : Stage). BeginQuiet v running.call) bad s))
-          (λ (h : MayKnow running.call × KnownAt c past running.call × Unmarked (held_at c past)). absurd (quiet running.stage running.call s h.0))
+          (λ (h : MayKnow running.call × KnownAt c past running.call × Unmarked (held_at c past) × NoWrites c past × (is_over c (life_at c past) past ≡ false)). absurd (quiet running.stage running.call s h.0))
           due
       by (Pins name) s more = absurd s
       by (Unpins name) s more = more s
+      by (Stands slot running) s more = over_in running.stage (Due past []) (λ i. more (stood_settled running.stage (Settled past) i s))
       by _ s more = tt
 
   turn_self : (a b : At) → a ≡ b → same_turn b a ≡ true
@@ -332,48 +588,24 @@ module _ (head : Head) where
       by (Client c) = ap (λ (v : Bool). v && nat_eq c c) (self a.stamp.0) ∙ self c
       by (Target t) = ap (λ (v : Bool). v && nat_eq t t) (self a.stamp.0) ∙ self t
 
-  abbrev IsStatCall : Call → Type 0
-  IsStatCall (call.Stat path) = Unit {0}
-  IsStatCall _ = ⊥
-
-  -- it goes on
-  abbrev StandsFor : ℕ → Entry → Type 0
-  StandsFor slot (Stands s running) = s ≡ slot
-  StandsFor slot _ = ⊥
-
-  -- what a call of which something is due may be followed by
-  abbrev Follows : Running → ℕ → Entry → Type 0
-  Follows r slot e =
-      ((r.stage ≡ Bad) × Starts slot Bad e) ⊎ ((r.stage ≡ Plain) × Starts slot Plain e) ⊎ (IsReadCall r.call × StartsRead slot e) ⊎ (IsStatCall r.call × (r.stage ≡ Plain) × StandsFor slot e)
-
-  stat_starts : (slot : ℕ) (e : Entry) → StartsStat slot e → Starts slot Plain e ⊎ StandsFor slot e
-  stat_starts slot (Stands s running) h = inr h
-  stat_starts slot e h = inl h
-
-  reading_owes : (same : Type 0) (k : Call) (slot : ℕ) (e : Entry) → IsReadingCall k → BareOwesBegun same slot Plain k e → same × (Starts slot Plain e ⊎ (IsStatCall k × StandsFor slot e))
-  reading_owes same (call.Lookup path) slot e reads o = (o.0, inl o.1)
-  reading_owes same (call.List path) slot e reads o = (o.0, inl o.1)
-  reading_owes same (call.Layout path) slot e reads o = (o.0, inl o.1)
-  reading_owes same (call.Stat path) slot e reads o = (o.0, ⊎_elim (λ (s : Starts slot Plain e). inl s) (λ (s : StandsFor slot e). inr (tt, s)) (stat_starts slot e o.1))
-  reading_owes same k slot e reads o = absurd reads
-
-  read_owes : (same : Type 0) (k : Call) (slot : ℕ) (e : Entry) → IsReadCall k → BareOwesBegun same slot Plain k e → same × StartsRead slot e
-  read_owes same (call.Read h offset count) slot e reads o = o
-  read_owes same k slot e reads o = absurd reads
-
   -- in its turn
-  begun_starts : (same : Type 0) (c d : ℕ) (past : List Line) (r : Running) (slot : ℕ) (e : Entry) → BareBegins d past r → IsDue c past r → BareOwesBegun same slot r.stage r.call e → same × Follows r slot e
+  begun_starts : (same : Type 0) (c d : ℕ) (past : List Line) (r : Running) (slot : ℕ) (e : Entry) → Begins d past r → IsDue c past r → OwesBegun same slot r.stage r.call e → same × Follows r slot e
   begun_starts same c d past r slot e (inl p) (inl bad) o = let both : Plain ≡ Bad = sym p.1 ∙ bad in absurd (cc)
-  begun_starts same c d past r slot e (inl p) (inr h) o = by h.0 (subst (λ (v : Stage). BareOwesBegun same slot v r.call e) p.1 o)
+  begun_starts same c d past r slot e (inl p) (inr h) o = by h.0 (subst (λ (v : Stage). OwesBegun same slot v r.call e) p.1 o)
     where
-      by : MayKnow r.call → BareOwesBegun same slot Plain r.call e → same × Follows r slot e
+      by : MayKnow r.call → OwesBegun same slot Plain r.call e → same × Follows r slot e
       by (inl reads) owes =
-          let s = reading_owes same r.call slot e reads owes in
-          (s.0, ⊎_elim (λ (h : Starts slot Plain e). inr (inl (p.1, h))) (λ (h : IsStatCall r.call × StandsFor slot e). inr (inr (inr (h.0, p.1, h.1)))) s.1)
-      by (inr reads) owes = let s = read_owes same r.call slot e reads owes in (s.0, inr (inr (inl (reads, s.1))))
-  begun_starts same c d past r slot e (inr p) due o = let s = subst (λ (v : Stage). BareOwesBegun same slot v r.call e) p.1 o in (s.0, inl (p.1, s.1))
+          let s = reading_owes same r.call slot e reads owes in (
+            s.0,
+            ⊎_elim (λ (z : Starts slot Plain e ⊎ (IsStatCall r.call × StandsFor slot e)). ⊎_elim (λ (h : Starts slot Plain e). inr (inl (p.1, h))) (λ (h : IsStatCall r.call × StandsFor slot e). inr (inr (inr (inl (p.1, h.0, h.1))))) z)
+                (λ (z : OfFlush e). inr (inr (inr (inr (p.1, z))))) s.1,
+          )
+      by (inr reads) owes =
+          let s = read_owes same r.call slot e reads owes in
+          (s.0, ⊎_elim (λ (z : StartsRead slot e). inr (inr (inl (p.1, reads, z)))) (λ (z : OfFlush e). inr (inr (inr (inr (p.1, z))))) s.1)
+  begun_starts same c d past r slot e (inr p) due o = let s = subst (λ (v : Stage). OwesBegun same slot v r.call e) p.1 o in (s.0, inl (p.1, s.1))
 
-  told_due : (at : At) (s : ℕ) (named : At) (given : Answer) (work : Option Work) (later : List PrintedLine) (past : List Line) → BareGrown head past → BareOwes past at (Told s named given work)
+  told_due : (at : At) (s : ℕ) (named : At) (given : Answer) (work : Option Work) (later : List PrintedLine) (past : List Line) → Grown head past → Owes past at (Told s named given work)
       → Due past (record { at = at; entry = entry.Told s named given } ∷ later)
   told_due at s named given work later [] g o = tt
   told_due at s named given work later (l ∷ past) g o = by l.at.node l.entry g.0 o (told_due at s named given work later past g.1)
@@ -381,11 +613,12 @@ module _ (head : Head) where
       same_slot : (slot : ℕ) (r : Running) → Follows r slot (Told s named given work) → s ≡ slot
       same_slot slot r (inl p) = p.1
       same_slot slot r (inr (inl p)) = p.1
-      same_slot slot r (inr (inr (inl p))) = p.1
-      same_slot slot r (inr (inr (inr p))) = absurd p.2
+      same_slot slot r (inr (inr (inl p))) = p.2
+      same_slot slot r (inr (inr (inr (inl p)))) = absurd p.2
+      same_slot slot r (inr (inr (inr (inr p)))) = absurd p.1
 
-      by : (node : Node) (e : Entry) → BareAllowed head past (turn l.at.stamp node) e → BareOwes (line (turn l.at.stamp node) e ∷ past) at (Told s named given work)
-          → (BareOwes past at (Told s named given work) → Due past (record { at = at; entry = entry.Told s named given } ∷ later))
+      by : (node : Node) (e : Entry) → Allowed head past (turn l.at.stamp node) e → Owes (line (turn l.at.stamp node) e ∷ past) at (Told s named given work)
+          → (Owes past at (Told s named given work) → Due past (record { at = at; entry = entry.Told s named given } ∷ later))
           → Due (line (turn l.at.stamp node) e ∷ past) (record { at = at; entry = entry.Told s named given } ∷ later)
       by (Client d) (Begin slot running) k o more = λ c own due.
           let here = turn l.at.stamp (Client d) in
@@ -395,234 +628,587 @@ module _ (head : Head) where
       by (Target t) (Begin slot running) k o more = absurd k.ok
       by _ (Pins name) k o more = more o.1
       by _ (Unpins name) k o more = more o
+      by node (Stands z r) k o more = over_in r.stage (Due past (record { at = at; entry = entry.Told s named given } ∷ later)) (λ i. more (stood_owes (turn l.at.stamp node ≡ at) (Owes past at (Told s named given work)) z r.stage (Told s named given work) i o))
       by _ _ k o more = tt
 
-  -- nothing else may follow, but what it pins and unpins, a request, and that it goes on
+  -- nothing else may follow, but what it pins and unpins, a request, that it goes on, and what a flush writes back
   other_due : (at : At) (e : Entry) → ((slot : ℕ) → Starts slot Plain e → ⊥) → ((slot : ℕ) → Starts slot Bad e → ⊥) → ((slot : ℕ) → StartsRead slot e → ⊥)
-      → ((slot : ℕ) → StandsFor slot e → ⊥) → (later : List PrintedLine) (past : List Line) → BareGrown head past → BareOwes past at e → Due past later
-  other_due at e never nor none off later [] g o = tt
-  other_due at e never nor none off later (l ∷ past) g o = by l.at.node l.entry g.0 o (other_due at e never nor none off later past g.1)
+      → ((slot : ℕ) → StandsFor slot e → ⊥) → (OfFlush e → ⊥) → (later : List PrintedLine) (past : List Line) → Grown head past → Owes past at e → Due past later
+  other_due at e never nor none off flush later [] g o = tt
+  other_due at e never nor none off flush later (l ∷ past) g o = by l.at.node l.entry g.0 o (other_due at e never nor none off flush later past g.1)
     where
       no_more : (slot : ℕ) (r : Running) → Follows r slot e → ⊥
       no_more slot r (inl p) = nor slot p.1
       no_more slot r (inr (inl p)) = never slot p.1
-      no_more slot r (inr (inr (inl p))) = none slot p.1
-      no_more slot r (inr (inr (inr p))) = off slot p.2
+      no_more slot r (inr (inr (inl p))) = none slot p.2
+      no_more slot r (inr (inr (inr (inl p)))) = off slot p.2
+      no_more slot r (inr (inr (inr (inr p)))) = flush p.1
 
-      by : (node : Node) (x : Entry) → BareAllowed head past (turn l.at.stamp node) x → BareOwes (line (turn l.at.stamp node) x ∷ past) at e → (BareOwes past at e → Due past later) → Due (line (turn l.at.stamp node) x ∷ past) later
+      by : (node : Node) (x : Entry) → Allowed head past (turn l.at.stamp node) x → Owes (line (turn l.at.stamp node) x ∷ past) at e → (Owes past at e → Due past later) → Due (line (turn l.at.stamp node) x ∷ past) later
       by (Client d) (Begin slot running) k o more = λ c own due. absurd (no_more slot running (begun_starts (turn l.at.stamp (Client d) ≡ at) c d past running slot e k.ok.begins due o).1)
       by (Target t) (Begin slot running) k o more = absurd k.ok
       by _ (Pins name) k o more = more o.1
       by _ (Unpins name) k o more = more o
+      by node (Stands z r) k o more = over_in r.stage (Due past later) (λ i. more (stood_owes (turn l.at.stamp node ≡ at) (Owes past at e) z r.stage e i o))
       by _ _ k o more = tt
 
-  -- ---- a request, or that the call goes on, where that never follows
-
-  since_pins : (c d : ℕ) (stamp : Stamp) (name : LockName) (now past : List Line) → BareGrown head (line (turn stamp (Client d)) (Pins name) ∷ past) → Since c now (line (turn stamp (Client d)) (Pins name) ∷ past) → Since c now past
-  since_pins c d stamp name now past g s =
-      record {
-        calls = s.calls;
-        files = s.files;
-        knows = λ k h. s.knows k
-            (by_more (notes_at c past) (notes_at c (line (turn stamp (Client d)) (Pins name) ∷ past)) (files_at c past) (files_at c past) (Free head c past) (Free head c (line (turn stamp (Client d)) (Pins name) ∷ past)) k
-            (pins_grow c past stamp d name) (agrees_now c (line (turn stamp (Client d)) (Pins name) ∷ past) g) (λ h offset count f is bound. bound) (λ u free. free_pins head c past stamp d name u free) h);
-      }
-
-  since_unpins : (c d : ℕ) (stamp : Stamp) (name : LockName) (now past : List Line) → BareGrown head (line (turn stamp (Client d)) (Unpins name) ∷ past)
-      → Since c now (line (turn stamp (Client d)) (Unpins name) ∷ past) → Since c now past
-  since_unpins c d stamp name now past g s =
-      record {
-        calls = s.calls;
-        files = s.files;
-        knows = λ k h. s.knows k
-            (by_more (notes_at c past) (notes_at c (line (turn stamp (Client d)) (Unpins name) ∷ past)) (files_at c past) (files_at c past) (Free head c past) (Free head c (line (turn stamp (Client d)) (Unpins name) ∷ past)) k
-            (unpins_grow c past stamp d name) (agrees_now c (line (turn stamp (Client d)) (Unpins name) ∷ past) g) (λ h offset count f is bound. bound) (λ u free. free_unpins head c past stamp d name u free) h);
-      }
+  -- ---- a request, or that a call goes on, where that never follows
 
   abbrev Begun : ℕ → Stamp → ℕ → Running → List Line → List Line
   Begun c stamp slot running past = line (turn stamp (Client c)) (Begin slot running) ∷ past
 
   module _ (c : ℕ) (at : At) (own : at.node ≡ Client c) (x : Entry) (now : List Line) (later : List PrintedLine)
-      (never : (stamp : Stamp) (slot : ℕ) (running : Running) (past : List Line) → BareGrown head (Begun c stamp slot running past) → Since c now (Begun c stamp slot running past)
+      (never : (stamp : Stamp) (slot : ℕ) (running : Running) (past : List Line) → Grown head (Begun c stamp slot running past) → Since (Begun c stamp slot running past) now
       → Follows running slot x → IsDue c past running → ⊥) where
     one_client : (d : ℕ) (here : At) → here.node ≡ Client d → here ≡ at → d ≡ c
     one_client d here is e = let same : Client d ≡ Client c = sym is ∙ ap (λ (v : At). v.node) e ∙ own in cc
 
-    never_due : (past : List Line) → BareGrown head past → Since c now past → BareOwes past at x → Due past later
+    never_due : (past : List Line) → Grown head past → Since past now → Owes past at x → Due past later
     never_due [] g s o = tt
     never_due (l ∷ past) g s o = by l.at.node l.entry g s o (never_due past g.1)
       where
-        by : (node : Node) (e : Entry) → BareGrown head (line (turn l.at.stamp node) e ∷ past) → Since c now (line (turn l.at.stamp node) e ∷ past) → BareOwes (line (turn l.at.stamp node) e ∷ past) at x
-            → (Since c now past → BareOwes past at x → Due past later) → Due (line (turn l.at.stamp node) e ∷ past) later
+        by : (node : Node) (e : Entry) → Grown head (line (turn l.at.stamp node) e ∷ past) → Since (line (turn l.at.stamp node) e ∷ past) now → Owes (line (turn l.at.stamp node) e ∷ past) at x
+            → (Since past now → Owes past at x → Due past later) → Due (line (turn l.at.stamp node) e ∷ past) later
         by (Client d) (Begin slot running) g s o more = λ b is due.
             let starts = begun_starts (turn l.at.stamp (Client d) ≡ at) b d past running slot x g.0.ok.begins due o in
             let same : c ≡ d = sym (one_client d (turn l.at.stamp (Client d)) refl starts.0) in
             let due_here : IsDue c past running = subst (λ (v : ℕ). IsDue v past running) (one_client b (turn l.at.stamp (Client d)) is starts.0) due in
-            absurd (subst (λ (v : ℕ). BareGrown head (Begun v l.at.stamp slot running past) → Since c now (Begun v l.at.stamp slot running past) → ⊥) same (λ g s. never l.at.stamp slot running past g s starts.1 due_here) g s)
-        by (Client d) (Pins name) g s o more = more (since_pins c d l.at.stamp name now past g s) o.1
-        by (Client d) (Unpins name) g s o more = more (since_unpins c d l.at.stamp name now past g s) o
+            absurd (subst (λ (v : ℕ). Grown head (Begun v l.at.stamp slot running past) → Since (Begun v l.at.stamp slot running past) now → ⊥) same (λ g s. never l.at.stamp slot running past g s starts.1 due_here) g s)
+        by (Client d) (Pins name) g s o more = more (since_less (line (turn l.at.stamp (Client d)) (Pins name)) past now tt s) o.1
+        by (Client d) (Unpins name) g s o more = more (since_less (line (turn l.at.stamp (Client d)) (Unpins name)) past now tt s) o
+        by (Client d) (Stands z r) g s o more = over_in r.stage (Due past later) (λ i. more (since_less (line (turn l.at.stamp (Client d)) (Stands z r)) past now i s) (stood_owes (turn l.at.stamp (Client d) ≡ at) (Owes past at x) z r.stage x i o))
+        by (Target u) (Stands z r) g s o more = absurd g.0.ok
         by (Target u) (Begin slot running) g s o more = absurd g.0.ok
         by (Target u) (Pins name) g s o more = absurd g.0.ok
         by (Target u) (Unpins name) g s o more = absurd g.0.ok
         by _ _ g s o more = tt
 
-  -- the call that began stands in its slot, and is known now
-  module _ (c : ℕ) (stamp : Stamp) (slot : ℕ) (running : Running) (now past : List Line) (g : BareGrown head (Begun c stamp slot running past)) (s : Since c now (Begun c stamp slot running past)) where
-    stands_now : call_at c slot now ≡ Some running
-    stands_now =
-        s.calls slot ∙ ap (λ (v : Bool). if v then (if nat_eq slot slot then Some running else call_at c slot past) else call_at c slot past) (self c)
-        ∙ ap (λ (v : Bool). if v then Some running else call_at c slot past) (self slot)
+  -- ---- the call that began stands in its slot, and is known now
 
-    known_now : KnownAt c past running.call → Unmarked (held_at c past) → KnownNow c now running.call
-    known_now h calm =
-        s.knows running.call (known_clear c (Begun c stamp slot running past) running.call g calm
-        (still head c past (line (turn stamp (Client c)) (Begin slot running)) g (refl, tt) running.call (λ t. rebinds_self running.call) h))
+  record Here (c slot : ℕ) (running : Running) (now : List Line) : Type 0 where
+    stands : call_at c slot now ≡ Some running
+    none : NoWrites c now
+    alive : is_over c (life_at c now) now ≡ false
+    owed : owed_of c now ≡ []
+    knows : KnownNow c now running.call
 
-    file_now : (h offset count : ℕ) → running.call ≡ call.Read h offset count → file_at c h now ≡ file_at c h past
-    file_now h offset count is =
-        s.files h ∙ ap (λ (b : Bool). if b then begun_file h running.call (file_at c h past) else file_at c h past) (self c) ∙ ap (λ (k : Call). begun_file h k (file_at c h past)) is
+  -- a lock that isn't marked stays so, whatever is pinned and unpinned
+  free_pins : (c d : ℕ) (stamp : Stamp) (name : LockName) (past : List Line) (t : ℕ) (k : Lock) → Free c past t k → Free c (line (turn stamp (Client d)) (Pins name) ∷ past) t k
+  free_pins c d stamp name past t k (h, i, target, lock, free) =
+      let p = cond_both (nat_eq c d) (changed name of_held.Pin (held_at c past)) (held_at c past) (λ (v : List HeldLock). There (IsFreeOf k) t k.cookie.0 v)
+      (λ o. changed_there (IsFreeOf k) t k.cookie.0 name of_held.Pin (held_at c past) (λ x j e w. w) (there c past t k (h, i, target, lock, free))) (λ o. there c past t k (h, i, target, lock, free)) in
+      (p.0, p.1.0, p.1.1.0.0, p.1.1.1.0, p.1.1.1.1)
+
+  free_unpins : (c d : ℕ) (stamp : Stamp) (name : LockName) (past : List Line) (t : ℕ) (k : Lock) → Free c past t k → Free c (line (turn stamp (Client d)) (Unpins name) ∷ past) t k
+  free_unpins c d stamp name past t k (h, i, target, lock, free) =
+      let p = cond_both (nat_eq c d) (used name (changed name of_held.Unpin (held_at c past))) (held_at c past) (λ (v : List HeldLock). There (IsFreeOf k) t k.cookie.0 v)
+      (λ o. used_there (IsFreeOf k) t k.cookie.0 name (changed name of_held.Unpin (held_at c past)) (changed_there (IsFreeOf k) t k.cookie.0 name of_held.Unpin (held_at c past) (λ x j e w. w) (there c past t k (h, i, target, lock, free))))
+      (λ o. there c past t k (h, i, target, lock, free)) in
+      (p.0, p.1.0, p.1.1.0.0, p.1.1.1.0, p.1.1.1.1)
+
+  none_pins : (c d : ℕ) (stamp : Stamp) (name : LockName) (past : List Line) → NoWrites c past → NoWrites c (line (turn stamp (Client d)) (Pins name) ∷ past)
+  none_pins c d stamp name past none =
+      cond_both (nat_eq c d) (changed name of_held.Pin (held_at c past)) (held_at c past) (λ (v : List HeldLock). (h : HeldLock) → In h v → h.lock.ask.mode ≡ PW → ⊥) (λ o. none_changed name of_held.Pin (held_at c past) (λ x. refl) none) (λ o. none)
+
+  none_unpins : (c d : ℕ) (stamp : Stamp) (name : LockName) (past : List Line) → NoWrites c past → NoWrites c (line (turn stamp (Client d)) (Unpins name) ∷ past)
+  none_unpins c d stamp name past none =
+      cond_both (nat_eq c d) (used name (changed name of_held.Unpin (held_at c past))) (held_at c past) (λ (v : List HeldLock). (h : HeldLock) → In h v → h.lock.ask.mode ≡ PW → ⊥)
+      (λ o h i. none_changed name of_held.Unpin (held_at c past) (λ x. refl) none h (used_only name h (changed name of_held.Unpin (held_at c past)) i)) (λ o. none)
+
+  here_pins : (c slot : ℕ) (running : Running) (stamp : Stamp) (d : ℕ) (name : LockName) (past : List Line) → Run head (line (turn stamp (Client d)) (Pins name) ∷ past) → Here c slot running past → Here c slot running (line (turn stamp (Client d)) (Pins name) ∷ past)
+  here_pins c slot running stamp d name past y k =
+      let l = line (turn stamp (Client d)) (Pins name) in
+      record {
+        stands = k.stands;
+        none = none_pins c d stamp name past k.none;
+        alive = k.alive;
+        owed = k.owed;
+        knows = by_more (notes_at c past) (notes_at c (l ∷ past)) (KnownRead (Free c past) c past) (KnownRead (Free c (l ∷ past)) c (l ∷ past)) (ServedOf (Free c past)) (ServedOf (Free c (l ∷ past))) running.call (pins_grow c past stamp d name) (agrees_now c (l ∷ past) y.grown)
+            (read_stays (Free c past) (Free c (l ∷ past)) c l past (free_pins c d stamp name past) refl running.call (λ h p n f is bound. bound)) (λ u locked. served_stay (Free c past) (Free c (l ∷ past)) u (free_pins c d stamp name past) locked) k.knows;
+      }
+
+  here_unpins : (c slot : ℕ) (running : Running) (stamp : Stamp) (d : ℕ) (name : LockName) (past : List Line) → Run head (line (turn stamp (Client d)) (Unpins name) ∷ past) → Here c slot running past → Here c slot running (line (turn stamp (Client d)) (Unpins name) ∷ past)
+  here_unpins c slot running stamp d name past y k =
+      let l = line (turn stamp (Client d)) (Unpins name) in
+      record {
+        stands = k.stands;
+        none = none_unpins c d stamp name past k.none;
+        alive = k.alive;
+        owed = k.owed;
+        knows = by_more (notes_at c past) (notes_at c (l ∷ past)) (KnownRead (Free c past) c past) (KnownRead (Free c (l ∷ past)) c (l ∷ past)) (ServedOf (Free c past)) (ServedOf (Free c (l ∷ past))) running.call (unpins_grow c past stamp d name) (agrees_now c (l ∷ past) y.grown)
+            (read_stays (Free c past) (Free c (l ∷ past)) c l past (free_unpins c d stamp name past) refl running.call (λ h p n f is bound. bound)) (λ u locked. served_stay (Free c past) (Free c (l ∷ past)) u (free_unpins c d stamp name past) locked) k.knows;
+      }
+
+  no_flush : (k : Call) (h : ℕ) → MayKnow k → k ≡ call.Flush h → ⊥
+  no_flush k h may e = ⊎_elim (λ (n : ⊥). n) (λ (n : ⊥). n) (subst MayKnow e may)
+
+  -- what stands there is a flush
+  of_flush : (past : List Line) (at : At) (c : ℕ) (running : Running) (stage : Stage) (pins : List LockName) → IsFlushing stage
+      → SizesStand past at running stage pins ⊎ LockStand past c running stage ⊎ StatStand past at c running stage pins ⊎ GetStand past c running stage pins ⊎ FlushStand past c running stage pins
+      ⊎ ((pins ≡ running.pins) × MovedStand past at c running stage) → (h : ℕ) × (running.call ≡ call.Flush h)
+  of_flush past at c running stage pins i how = by how
+    where
+      no : (s : Stage) → stage ≡ s → (IsFlushing s → ⊥) → ⊥
+      no s e n = n (subst IsFlushing e i)
+
+      moved : MovedStand past at c running stage → ⊥
+      moved (inl k) = no (Came k.work k.lock) k.is (λ z. z)
+      moved (inr (inl k)) = no _ k.is (λ z. z)
+      moved (inr (inr (inl k))) = no _ k.is (λ z. z)
+      moved (inr (inr (inr (inl k)))) = no (Forgotten k.work) k.is (λ z. z)
+      moved (inr (inr (inr (inr k)))) = no (Looks k.work) k.is (λ z. z)
+
+      by : SizesStand past at running stage pins ⊎ LockStand past c running stage ⊎ StatStand past at c running stage pins ⊎ GetStand past c running stage pins ⊎ FlushStand past c running stage pins ⊎ ((pins ≡ running.pins) × MovedStand past at c running stage)
+          → (h : ℕ) × (running.call ≡ call.Flush h)
+      by (inl k) = absurd (⊎_elim (λ (e : stage ≡ Sizes k.work). no (Sizes k.work) e (λ z. z)) (λ (e : (stage ≡ Enqueued k.work) × LeftSize past at running k.sizes). no (Enqueued k.work) e.0 (λ z. z)) k.is)
+      by (inr (inl k)) = absurd (no (Enqueued k.work) k.is (λ z. z))
+      by (inr (inr (inl k))) = absurd (no (Enqueued k.work) k.is (λ z. z))
+      by (inr (inr (inr (inl k)))) = absurd (no (Gets k.work) k.is (λ z. z))
+      by (inr (inr (inr (inr (inl k))))) = (k.handle, k.flushes)
+      by (inr (inr (inr (inr (inr k))))) = absurd (moved k.1)
+
+  here_stands : (c slot : ℕ) (running : Running) → MayKnow running.call → (stamp : Stamp) (d s : ℕ) (r : Running) (past : List Line) → Run head (line (turn stamp (Client d)) (Stands s r) ∷ past) → IsFlushing r.stage
+      → Here c slot running past → Here c slot running (line (turn stamp (Client d)) (Stands s r) ∷ past)
+  here_stands c slot running may stamp d s r past y i k =
+      let l = line (turn stamp (Client d)) (Stands s r) in
+      record {
+        stands = cond_both (nat_eq c d) (if nat_eq s slot then Some r else call_at c slot past) (call_at c slot past) (λ (v : Option Running). v ≡ Some running)
+            (λ own. cond_both (nat_eq s slot) (Some r) (call_at c slot past) (λ (v : Option Running). v ≡ Some running) (λ same. absurd (other own same y.grown.0.ok)) (λ e. k.stands)) (λ e. k.stands);
+        none = k.none;
+        alive = k.alive;
+        owed = k.owed;
+        knows = by_more (notes_at c past) (notes_at c past) (KnownRead (Free c past) c past) (KnownRead (Free c past) c (l ∷ past)) (ServedOf (Free c past)) (ServedOf (Free c past)) running.call (λ x u. u) (agrees_now c past y.grown.1)
+            (read_stays (Free c past) (Free c past) c l past (λ t x f. f) refl running.call (λ h p n f is bound. bound)) (λ u locked. locked) k.knows;
+      }
+    where
+      other : nat_eq c d ≡ true → nat_eq s slot ≡ true → StandsOk past (turn stamp (Client d)) d s r → ⊥
+      other own same ok =
+          let there : call_at c slot past ≡ Some ok.running = ap (λ (v : ℕ). call_at v slot past) (eqb-true c d own) ∙ ap (λ (v : ℕ). call_at d v past) (sym (eqb-true s slot same)) ∙ ok.call in
+          let is : ok.running ≡ running = one ok.running running (sym there ∙ k.stands) in
+          let f = of_flush past (turn stamp (Client d)) d ok.running ok.stage ok.pins (subst IsFlushing (ap (λ (v : Running). v.stage) ok.is) i) ok.how in
+          no_flush running.call f.0 may (ap (λ (v : Running). v.call) (sym is) ∙ f.1)
+        where
+          one : (a b : Running) → Some a ≡ Some b → a ≡ b
+          one a b e = cc
+
+  -- it is so from the begin on
+  here_on : (c slot : ℕ) (running : Running) → MayKnow running.call → (b : Line) (rest now : List Line) → Run head now → Since (b ∷ rest) now → Here c slot running (b ∷ rest) → Here c slot running now
+  here_on c slot running may b rest [] y e h = absurd (cc)
+  here_on c slot running may b rest (n ∷ now) y (inl e) h = subst (λ (v : List Line). Here c slot running v) e h
+  here_on c slot running may b rest (n ∷ now) y (inr k) h = by n.at.node n.entry y k.0 (here_on c slot running may b rest now (before head n now y) k.1 h)
+    where
+      by : (node : Node) (e : Entry) → Run head (line (turn n.at.stamp node) e ∷ now) → IsIdle e → Here c slot running now → Here c slot running (line (turn n.at.stamp node) e ∷ now)
+      by (Client d) (Pins name) y i k = here_pins c slot running n.at.stamp d name now y k
+      by (Client d) (Unpins name) y i k = here_unpins c slot running n.at.stamp d name now y k
+      by (Client d) (Stands s r) y i k = here_stands c slot running may n.at.stamp d s r now y i k
+      by (Target t) (Pins name) y i k = absurd y.grown.0.ok
+      by (Target t) (Unpins name) y i k = absurd y.grown.0.ok
+      by (Target t) (Stands s r) y i k = absurd y.grown.0.ok
+      by node e y i k = absurd i
+
+  run_since : (before now : List Line) → Since before now → Run head now → Run head before
+  run_since early [] e y = subst (Run head) (sym e) y
+  run_since early (n ∷ now) (inl e) y = subst (Run head) (sym e) y
+  run_since early (n ∷ now) (inr k) y = run_since early now k.1 (before head n now y)
+
+  -- and locks that aren't marked stay so
+  free_since : (c : ℕ) (past now : List Line) → Since past now → Grown head now → (t : ℕ) (k : Lock) → Free c past t k → Free c now t k
+  free_since c past [] e g t k f = subst (λ (v : List Line). Free c v t k) e f
+  free_since c past (n ∷ now) (inl e) g t k f = subst (λ (v : List Line). Free c v t k) e f
+  free_since c past (n ∷ now) (inr s) g t k f = by n.at.node n.entry g.0.ok s.0 (free_since c past now s.1 g.1 t k f)
+    where
+      by : (node : Node) (e : Entry) → EntryOk now (turn n.at.stamp node) node e → IsIdle e → Free c now t k → Free c (line (turn n.at.stamp node) e ∷ now) t k
+      by (Client d) (Pins name) ok i f = free_pins c d n.at.stamp name now t k f
+      by (Client d) (Unpins name) ok i f = free_unpins c d n.at.stamp name now t k f
+      by (Client d) (Stands s r) ok i f = f
+      by (Target u) (Pins name) ok i f = absurd ok
+      by (Target u) (Unpins name) ok i f = absurd ok
+      by (Target u) (Stands s r) ok i f = absurd ok
+      by node e ok i f = absurd i
+
+  here_begun : (c : ℕ) (stamp : Stamp) (slot : ℕ) (running : Running) (past : List Line) → Run head (Begun c stamp slot running past) → MayKnow running.call × KnownAt c past running.call × Unmarked (held_at c past) × NoWrites c past × (is_over c (life_at c past) past ≡ false)
+      → Here c slot running (Begun c stamp slot running past)
+  here_begun c stamp slot running past y h =
+      record {
+        stands =
+            ap (λ (v : Bool). if v then (if nat_eq slot slot then Some running else call_at c slot past) else call_at c slot past) (self c)
+            ∙ ap (λ (v : Bool). if v then Some running else call_at c slot past) (self slot);
+        none = h.3;
+        alive = h.4;
+        owed = none_owed c past (line (turn stamp (Client c)) (Begin slot running)) (y.heeds.0 c) (λ z. z);
+        knows = known_clear c (Begun c stamp slot running past) running.call y.grown h.2 (known_still head c past (line (turn stamp (Client c)) (Begin slot running)) y.grown (refl, tt) running.call (λ t. rebinds_self running.call) h.1);
+      }
+
+  -- nothing is asked for it, and it waits for no lock
+  module _ (c : ℕ) (stamp : Stamp) (slot : ℕ) (running : Running) (past now : List Line) (y : Run head now) (s : Since (Begun c stamp slot running past) now)
+      (due : MayKnow running.call × KnownAt c past running.call × Unmarked (held_at c past) × NoWrites c past × (is_over c (life_at c past) past ≡ false)) (plain : running.stage ≡ Plain) where
+    may : MayKnow running.call
+    may = due.0
+
+    started : Run head (Begun c stamp slot running past)
+    started = run_since (Begun c stamp slot running past) now s y
+
+    new : running.asking ≡ Unasked
+    new = ap (λ (v : Running). v.asking) started.grown.0.ok.is
+
+    limits : IsCall running.call
+    limits = started.grown.0.ok.limits
+
+    at_now : (p : List Line) → Run head p → Since (Begun c stamp slot running past) p → Here c slot running p
+    at_now p z since = here_on c slot running may (line (turn stamp (Client c)) (Begin slot running)) past p z since (here_begun c stamp slot running past started due)
+
+    here : Here c slot running now
+    here = at_now now y s
+
+    g : Grown head now
+    g = y.grown
+
+    serves : (w : Use) → ToRead w → ServedOf (Free c now) w → serving w (held_at c now) ≡ None → ⊥
+    serves w reads k lacks = served_again head y.ranges now g y.pins y.heeds y.speaks c here.alive here.owed here.none w reads.reads k lacks
 
     one_running : (r : Running) (other : ℕ) → call_at c other now ≡ Some r → other ≡ slot → r ≡ running
-    one_running r other is same = one r running (sym (subst (λ (v : ℕ). call_at c v now ≡ Some r) same is) ∙ stands_now)
+    one_running r other is same = one r running (sym (subst (λ (v : ℕ). call_at c v now ≡ Some r) same is) ∙ here.stands)
       where
         one : (a b : Running) → Some a ≡ Some b → a ≡ b
         one a b e = cc
 
-    -- nothing is asked for it
-    known_asks : (t : ℕ) (q : Queued) → BareGrown head now → BareQueuesOk now c t q → q.slot ≡ Some slot → running.stage ≡ Plain → MayKnow running.call → KnownAt c past running.call → Unmarked (held_at c past) → ⊥
-    known_asks t q grown ok serves plain may h calm =
-        by (subst (λ (v : Running). NamesAskOk now c t v q.op ⊎ SizeAskOk t v q.op ⊎ BareLockAskOk t v q.op) (one_running ok.running ok.slot ok.call (one_slot ok.slot slot q.slot ok.serves serves)) ok.asks) may
+    one_slot : (a b : ℕ) (v : Option ℕ) → v ≡ Some a → v ≡ Some b → a ≡ b
+    one_slot a b v e f = cc
+
+    no_read : (file : Option HandleFile) (k : Call) (o : Op) → operation_of file k ≡ Some o → IsReadCall k → ⊥
+    no_read file (call.Read h offset count) o e r = absurd (cc)
+    no_read file k o e r = r
+
+    asks_none : (t : ℕ) (q : Queued) → CallAsksOk now c t q → q.slot ≡ Some slot → ⊥
+    asks_none t q ok serves = by (subst (λ (v : Running). NamesAskOk now c t v q.op ⊎ SizeAskOk t v q.op ⊎ LockAskOk t v q.op ⊎ GetAskOk now c t v q.op) (one_running ok.running ok.slot ok.call (one_slot ok.slot slot q.slot ok.serves serves)) ok.asks) may
       where
-        one_slot : (a b : ℕ) (v : Option ℕ) → v ≡ Some a → v ≡ Some b → a ≡ b
-        one_slot a b v e f = cc
-
-        no_read : (file : Option HandleFile) (k : Call) (o : Op) → operation_of file k ≡ Some o → IsReadCall k → ⊥
-        no_read file (call.Read h offset count) o e r = absurd (cc)
-        no_read file k o e r = r
-
-        by : NamesAskOk now c t running q.op ⊎ SizeAskOk t running q.op ⊎ BareLockAskOk t running q.op → MayKnow running.call → ⊥
+        by : NamesAskOk now c t running q.op ⊎ SizeAskOk t running q.op ⊎ LockAskOk t running q.op ⊎ GetAskOk now c t running q.op → MayKnow running.call → ⊥
         by (inl a) (inl reads) = ⊎_elim
-            (λ (k : IsKnown (notes_at c now) running.call × ReadKnown (files_at c now) (Free head c now) running.call). known_told (notes_at c now) running.call reads k.0 a.unknown)
-            (λ (k : StatKnown (notes_at c now) (Free head c now) running.call). stat_asks_none head c now grown running.call k a.unknown_file)
-            (known_now h calm)
+            (λ (k : IsKnown (notes_at c now) running.call × KnownRead (Free c now) c now running.call). known_told (notes_at c now) running.call reads k.0 a.unknown)
+            (λ (k : StatKnown (notes_at c now) (ServedOf (Free c now)) running.call). stat_asks_none head c now g (ServedOf (Free c now)) running.call k a.unknown_file)
+            here.knows
         by (inl a) (inr read) = no_read running.file running.call q.op a.becomes read
         -- it is no call that goes on
-        by (inr (inl a)) m = let both : Sizes a.work ≡ Plain = sym a.stage ∙ plain in cc
-        by (inr (inr a)) m = let both : Enqueued a.work ≡ Plain = sym a.stage ∙ plain in cc
+        by (inr (inl a)) m = plain_no_work running.stage a.work plain (ap work_in a.stage)
+        by (inr (inr (inl a))) m = plain_no_work running.stage a.work plain (ap work_in a.stage)
+        by (inr (inr (inr a))) m = plain_no_work running.stage a.work plain (ap work_in a.stage)
 
-    -- nor does a read wait for a lock
-    read_waits : (at : At) (other : ℕ) (r : Running) → BareGrown head now → BareStandsOk now at c other r → other ≡ slot → IsReadCall running.call → IsDue c past running → ⊥
-    read_waits at other r grown ok same read due = by ok.how
+    -- a write-back goes under a lock to write
+    asks_never : (t : ℕ) (q : Queued) → QueuesOk now c t q → Follows running slot (Queues t q) → ⊥
+    asks_never t q ok (inl p) = p.1
+    asks_never t q (inl ok) (inr (inl p)) = asks_none t q ok p.1
+    asks_never t q (inr ok) (inr (inl p)) = let e : None ≡ Some slot = sym ok.serves ∙ p.1 in absurd (cc)
+    asks_never t q ok (inr (inr (inl p))) = p.2
+    asks_never t q ok (inr (inr (inr (inl p)))) = p.2
+    asks_never t q (inl ok) (inr (inr (inr (inr p)))) = let e : None ≡ Some ok.slot = sym p.1 ∙ ok.serves in absurd (cc)
+    asks_never t q (inr ok) (inr (inr (inr (inr p)))) = here.none ok.holding ok.held ok.mode
+
+    writes_never : (r : Resource) (change : Flush) → WritesBackOk now c r change → ⊥
+    writes_never r change ok = here.none ok.holding ok.held ok.mode
+
+    -- what a read knows of its file
+    file_same : (p : List Line) → Grown head p → Since (Begun c stamp slot running past) p → (h o n : ℕ) → (k : ReadBy (Free c p) c p h o n) → running.call ≡ call.Read h o n → (f : HandleFile) → running.file ≡ Some f → f ≡ k.file
+    file_same p g since h o n k is f of_file = by started.grown.0.ok.begins
       where
-        is : ok.running ≡ running
-        is = one_running ok.running other ok.call same
+        one : (a b : HandleFile) → Some a ≡ Some b → a ≡ b
+        one a b e = cc
 
-        good : Reads running → running.stage ≡ Bad → ⊥
-        good k = k.good
+        begun_same : file_at c h (Begun c stamp slot running past) ≡ file_at c h past
+        begun_same = ap (λ (b : Bool). if b then begun_file h running.call (file_at c h past) else file_at c h past) (self c) ∙ ap (λ (k : Call). begun_file h k (file_at c h past)) is
 
-        lacks_none : (k : Reads running) (work : Work) → BareLacks now c running k work → IsDue c past running → BareBegins c past running → ⊥
-        lacks_none k work lacks (inl bad) b = k.good bad
-        lacks_none k work lacks (inr h) (inr b) = k.good b.1
-        lacks_none k work lacks (inr h) (inl b) =
-            let known : KnownRead (files_at c now) (Free head c now) k.handle k.offset k.count = read_known k.handle k.offset k.count (subst (KnownNow c now) k.reads (known_now h.1 h.2)) in
-            let file : k.file ≡ known.file = one_file k.file known.file (sym k.of_file ∙ b.2 ∙ ap (file_for c past) k.reads ∙ sym (file_now k.handle k.offset k.count k.reads) ∙ known.bound) in
-            let limit = (subst IsCall k.reads g.0.ok.limits).3 in
-            let none = read_asks_none head c now k.handle k.offset k.count grown known limit in
-            let narrow = wants_of k.file.layout k.file.fid (Narrow k.offset k.count) in
-            let wide = wants_of k.file.layout k.file.fid (Wide k.offset k.count) in
-            ⊎_elim
-            (λ (x : LacksOf now c narrow work). none x.wanted (inl (subst (λ (f : HandleFile). In x.wanted (wants_of f.layout f.fid (Narrow k.offset k.count))) file (lacks_in now c narrow work x))) x.lacks)
-            (λ (x : LacksOf now c wide work). none x.wanted (inr (subst (λ (f : HandleFile). In x.wanted (wants_of f.layout f.fid (Wide k.offset k.count))) file (lacks_in now c wide work x))) x.lacks)
-            lacks
+        idle : (at : At) (e : Entry) (p : List Line) → IsIdle e → file_at c h (line at e ∷ p) ≡ file_at c h p
+        idle at (Pins name) p i = refl
+        idle at (Unpins name) p i = refl
+        idle at (Stands s r) p i = refl
+        idle at e p i = absurd i
+
+        file_past : (p : List Line) → Since (Begun c stamp slot running past) p → file_at c h past ≡ file_at c h p
+        file_past [] e = absurd (cc)
+        file_past (n ∷ p) (inl e) = sym begun_same ∙ ap (file_at c h) e
+        file_past (n ∷ p) (inr z) = file_past p z.1 ∙ sym (idle n.at n.entry p z.0)
+
+        by : Begins c past running → f ≡ k.file
+        by (inl b) = one f k.file (sym of_file ∙ b.2 ∙ ap (file_for c past) is ∙ file_past p since ∙ k.bound)
+        by (inr b) = absurd (let e : Plain ≡ Bad = sym plain ∙ b.1 in cc)
+
+    -- where it looks for its locks again they serve, it misses nothing, and reached
+    module _ (p : List Line) (z : Run head p) (h : Here c slot running p) (us : List Using) (uses : UsesHeld c p running us) where
+      narrow_fits : (handle offset count : ℕ) (k : ReadBy (Free c p) c p handle offset count) → IsLayout k.file.layout → wants_of k.file.layout k.file.fid (Narrow offset count) ≡ map (λ (u : Using). u.want) us
+          → missing k.file.layout offset (offset + count) (store_at c p) us ≡ None
+      narrow_fits handle offset count k good same = narrow_has head z.ranges p z.grown z.pins z.heeds z.speaks c h.alive h.owed h.none running plain k.file.layout good k.file.fid offset count k.limit us uses k.places same
+
+      wide_fits : (handle offset count : ℕ) (k : ReadBy (Free c p) c p handle offset count) → IsLayout k.file.layout → wants_of k.file.layout k.file.fid (Wide offset count) ≡ map (λ (u : Using). u.want) us
+          → missing k.file.layout offset (offset + count) (store_at c p) us ≡ None
+      wide_fits handle offset count k good same = wide_has head z.ranges p z.grown z.pins z.heeds z.speaks c h.alive h.owed h.none running plain k.file.layout good k.file.fid offset count k.limit us uses k.places same
+
+      reached_fits : (handle offset count : ℕ) (k : ReadBy (Free c p) c p handle offset count) → IsLayout k.file.layout → LastOf (Free c p) c p k.file.layout k.file.fid offset (offset + count - 1)
+          → wants_of k.file.layout k.file.fid (Narrow offset count) ≡ map (λ (u : Using). u.want) us → has_reached k.file.layout (offset + count - 1) us (store_at c p) ≡ true
+      reached_fits handle offset count k good last same =
+          let w = last_wanted k.file.layout good k.file.fid offset count k.some in
+          let u = in_map (λ (v : Using). v.want) w.0 us (subst (λ (ws : List Use). In w.0 ws) same w.1) in
+          narrow_reached head z.ranges p z.grown z.pins z.heeds z.speaks c h.alive h.owed h.none running plain k.file.layout good k.file.fid offset count k.limit us uses last k.some same
+          u.0 u.1 (ap (λ (v : Use). v.resource.stripe) u.2 ∙ w.2)
+
+    read_by : (p : List Line) → Here c slot running p → (h o n : ℕ) → running.call ≡ call.Read h o n → ReadBy (Free c p) c p h o n
+    read_by p k h o n is = by (subst (KnownNow c p) is k.knows)
+      where
+        by : KnownNow c p (call.Read h o n) → ReadBy (Free c p) c p h o n
+        by (inl q) = q.1
+        by (inr q) = absurd q
+
+    changes_none : (w : Work) → ChangesOn running w → IsReadCall running.call → ⊥
+    changes_none w (inl d) read = no_read_call running.call (call.Write d.handle d.offset d.bytes) d.writes read (λ z. z)
+    changes_none w (inr d) read = no_read_call running.call (call.Cut d.handle d.size) d.cuts read (λ z. z)
+
+    changes_no_stat : (w : Work) → ChangesOn running w → IsStatCall running.call → ⊥
+    changes_no_stat w (inl d) stat = no_stat_call running.call (call.Write d.handle d.offset d.bytes) d.writes stat (λ z. z)
+    changes_no_stat w (inr d) stat = no_stat_call running.call (call.Cut d.handle d.size) d.cuts stat (λ z. z)
+
+    -- it looks for no lock, narrow or to the end
+    lacks_never : (w : Work) (d : ReadsOn running w) → Wider c now running w → LacksOf now c (wanted_by w) w → ⊥
+    lacks_never w d wider lacks = by d.kind
+      where
+        h : ℕ
+        h = d.read.handle
+
+        o : ℕ
+        o = d.read.offset
+
+        n : ℕ
+        n = d.read.count
+
+        -- of the file of its handle
+        of_file : (p : List Line) → Run head p → Since (Begun c stamp slot running past) p → (k : ReadBy (Free c p) c p d.read.handle d.read.offset d.read.count) → (w.layout ≡ k.file.layout) × (w.fid ≡ k.file.fid)
+        of_file p z since k =
+            let same : d.read.file ≡ k.file = file_same p z.grown since d.read.handle d.read.offset d.read.count k d.read.reads d.read.file d.read.of_file in
+            (d.layout ∙ ap (λ (f : HandleFile). f.layout) same, d.fid ∙ ap (λ (f : HandleFile). f.fid) same)
+
+        among : (kind : Kind) → w.kind ≡ kind → (l : Raid0) → w.layout ≡ l → (f : Fid) → w.fid ≡ f → In lacks.wanted (wants_of l f kind)
+        among kind e l p f q =
+            subst (λ (v : Kind). In lacks.wanted (wants_of l f v)) e
+            (subst (λ (v : Fid). In lacks.wanted (wants_of l v w.kind)) q (subst (λ (v : Raid0). In lacks.wanted (wants_of v w.fid w.kind)) p (lacks_in now c (wanted_by w) w lacks)))
+
+        narrow : w.kind ≡ Narrow d.read.offset d.read.count → ⊥
+        narrow e =
+            let k = read_by now here d.read.handle d.read.offset d.read.count d.read.reads in
+            let of = of_file now y s k in
+            let low = k.limit in
+            let limit : d.read.offset + d.read.count + (d.read.offset + d.read.count) ≤ the_end = omega (arith, low) in
+            let i = among (Narrow d.read.offset d.read.count) e k.file.layout of.0 k.file.fid of.1 in
+            serves lacks.wanted (run_with k.file.layout k.file.fid d.read.offset (d.read.offset + d.read.count) limit (stripes k.file.layout) lacks.wanted i).0 (k.served lacks.wanted i) lacks.lacks
+
+        -- a narrow one had reached
+        narrowed : w.kind ≡ Wide d.read.offset d.read.count → Narrowed c now running w d.read.offset d.read.count → ⊥
+        narrowed e q = by j.last
           where
-            one_file : (a f : HandleFile) → Some a ≡ Some f → a ≡ f
-            one_file a f e = cc
+            since : Since q.before now
+            since = pins_idle q.before now q.since
 
-            read_known : (h offset count : ℕ) → KnownNow c now (call.Read h offset count) → KnownRead (files_at c now) (Free head c now) h offset count
-            read_known h offset count (inl k) = k.1
-            read_known h offset count (inr k) = absurd k
+            z : Run head q.before
+            z = run_since q.before now since y
 
-        stood : BareLockStand now c running ok.stage → ⊥
-        stood k = ⊎_elim
-            (λ (q : (ok.stage ≡ Enqueued k.work) × BareLacks now c running k.read k.work). lacks_none k.read k.work q.1 due g.0.ok.begins)
-            (λ (q : (lock : Lock) × (ok.stage ≡ Came k.work lock) × ((from : ℕ) × (reply : ReplyTo) × (running.asking ≡ Answered from reply))).
-            let both : Unasked ≡ Answered q.2.0 q.2.1 = ap (λ (v : Running). v.asking) (sym g.0.ok.is) ∙ q.2.2 in absurd (cc))
-            k.is
+            from : Since (Begun c stamp slot running past) q.before
+            from = since_between (line (turn stamp (Client c)) (Begin slot running)) past q.before now (λ i. i) s since
 
-        by : BareSizesStand now at ok.running ok.stage ok.pins ⊎ (BareLockStand now c ok.running ok.stage ⊎ BareStatStand now at c ok.running ok.stage ok.pins) → ⊥
-        by (inl k) = subst IsReadCall (ap (λ (v : Running). v.call) (sym is) ∙ k.glimpses) read
-        by (inr (inl k)) = stood (subst (λ (v : Running). BareLockStand now c v ok.stage) is k)
-        by (inr (inr k)) = subst IsReadCall (ap (λ (v : Running). v.call) (sym is) ∙ k.stat.stats) read
+            by_then : Here c slot running q.before
+            by_then = at_now q.before z from
 
-    -- nor does a stat
-    stat_waits : (at : At) (other : ℕ) (r : Running) → BareGrown head now → BareStandsOk now at c other r → other ≡ slot → IsStatCall running.call → running.stage ≡ Plain → IsDue c past running → ⊥
-    stat_waits at other r grown ok same stats plain due = by ok.how due
+            j : ReadBy (Free c q.before) c q.before d.read.handle d.read.offset d.read.count
+            j = read_by q.before by_then d.read.handle d.read.offset d.read.count d.read.reads
+
+            of : (w.layout ≡ j.file.layout) × (w.fid ≡ j.file.fid)
+            of = of_file q.before z from j
+
+            wants : wants_of j.file.layout j.file.fid (Narrow d.read.offset d.read.count) ≡ map (λ (u : Using). u.want) q.used
+            wants =
+                subst (λ (v : Fid). wants_of j.file.layout v (Narrow d.read.offset d.read.count) ≡ map (λ (u : Using). u.want) q.used) of.1
+                (subst (λ (v : Raid0). wants_of v w.fid (Narrow d.read.offset d.read.count) ≡ map (λ (u : Using). u.want) q.used) of.0 q.wants)
+
+            by : LastOf (Free c q.before) c q.before j.file.layout j.file.fid d.read.offset (d.read.offset + d.read.count - 1)
+                ⊎ ((x : Use) → In x (wants_of j.file.layout j.file.fid (Wide d.read.offset d.read.count)) → ServedOf (Free c q.before) x) → ⊥
+            by (inl last) = ⊎_elim
+                (λ (none : j.file.layout ≡ no_file.layout). none_in lacks.wanted j.file.layout j.file.fid (Wide d.read.offset d.read.count) none (among (Wide d.read.offset d.read.count) e j.file.layout of.0 j.file.fid of.1))
+                (λ (good : IsLayout j.file.layout).
+                let yes = reached_fits q.before z by_then q.used q.uses d.read.handle d.read.offset d.read.count j good last wants in
+                let short : has_reached j.file.layout (d.read.offset + d.read.count - 1) q.used (store_at c q.before) ≡ false =
+                subst (λ (v : Raid0). has_reached v (d.read.offset + d.read.count - 1) q.used (store_at c q.before) ≡ false) of.0 q.short
+                in
+                clash_of (has_reached j.file.layout (d.read.offset + d.read.count - 1) q.used (store_at c q.before)) yes short)
+                j.good
+            by (inr wide) =
+                let i = among (Wide d.read.offset d.read.count) e j.file.layout of.0 j.file.fid of.1 in
+                serves lacks.wanted (rest_with j.file.layout j.file.fid d.read.offset (stripes j.file.layout) lacks.wanted i).0
+                (served_stay (Free c q.before) (Free c now) lacks.wanted (free_since c q.before now since y.grown) (wide lacks.wanted i)) lacks.lacks
+
+        by : (w.kind ≡ Narrow d.read.offset d.read.count) ⊎ (w.kind ≡ Wide d.read.offset d.read.count) → ⊥
+        by (inl e) = narrow e
+        by (inr e) = ⊎_elim (λ (q : (old : Work) × (work_in running.stage ≡ Some old) × (old.kind ≡ Wide d.read.offset d.read.count)). plain_no_work running.stage q.0 plain q.1)
+            (λ (q : Narrowed c now running w d.read.offset d.read.count). narrowed e q) (wider d.read.offset d.read.count e)
+
+    -- it misses no page
+    misses_never : (w : Work) (d : ReadsOn running w) → UsesHeld c now running w.used → wanted_by w ≡ map (λ (u : Using). u.want) w.used → (page : Page)
+        → missing w.layout d.read.offset (d.read.offset + d.read.count) (store_at c now) w.used ≡ Some page → ⊥
+    misses_never w d uses wants page lacks =
+        by d.kind
       where
+        k : ReadBy (Free c now) c now d.read.handle d.read.offset d.read.count
+        k = read_by now here d.read.handle d.read.offset d.read.count d.read.reads
+
+        same : d.read.file ≡ k.file
+        same = file_same now g s d.read.handle d.read.offset d.read.count k d.read.reads d.read.file d.read.of_file
+
+        layout : w.layout ≡ k.file.layout
+        layout = d.layout ∙ ap (λ (f : HandleFile). f.layout) same
+
+        fid : w.fid ≡ k.file.fid
+        fid = d.fid ∙ ap (λ (f : HandleFile). f.fid) same
+
+        wanted : (kind : Kind) → w.kind ≡ kind → wants_of k.file.layout k.file.fid kind ≡ map (λ (u : Using). u.want) w.used
+        wanted kind e =
+            subst (λ (v : Kind). wants_of k.file.layout k.file.fid v ≡ map (λ (u : Using). u.want) w.used) e
+            (subst (λ (v : Fid). wants_of k.file.layout v w.kind ≡ map (λ (u : Using). u.want) w.used) fid (subst (λ (v : Raid0). wants_of v w.fid w.kind ≡ map (λ (u : Using). u.want) w.used) layout wants))
+
+        clash : missing k.file.layout d.read.offset (d.read.offset + d.read.count) (store_at c now) w.used ≡ None → ⊥
+        clash e =
+            let some : missing k.file.layout d.read.offset (d.read.offset + d.read.count) (store_at c now) w.used ≡ Some page =
+            subst (λ (v : Raid0). missing v d.read.offset (d.read.offset + d.read.count) (store_at c now) w.used ≡ Some page) layout lacks in
+            let both : None ≡ Some page = sym e ∙ some in
+            cc
+
+        by : (w.kind ≡ Narrow d.read.offset d.read.count) ⊎ (w.kind ≡ Wide d.read.offset d.read.count) → ⊥
+        by (inl e) = ⊎_elim (λ (none : k.file.layout ≡ no_file.layout). clash (none_missing k.file.layout d.read.offset (d.read.offset + d.read.count) (store_at c now) w.used (sym (wanted (Narrow d.read.offset d.read.count) e) ∙ none_wanted k.file.layout k.file.fid (Narrow d.read.offset d.read.count) none)))
+            (λ (good : IsLayout k.file.layout). clash (narrow_fits now y here w.used uses d.read.handle d.read.offset d.read.count k good (wanted (Narrow d.read.offset d.read.count) e))) k.good
+        by (inr e) = ⊎_elim (λ (none : k.file.layout ≡ no_file.layout). clash (none_missing k.file.layout d.read.offset (d.read.offset + d.read.count) (store_at c now) w.used (sym (wanted (Wide d.read.offset d.read.count) e) ∙ none_wanted k.file.layout k.file.fid (Wide d.read.offset d.read.count) none)))
+            (λ (good : IsLayout k.file.layout). clash (wide_fits now y here w.used uses d.read.handle d.read.offset d.read.count k good (wanted (Wide d.read.offset d.read.count) e))) k.good
+
+    -- it goes on nowhere
+    stands_never : (at : At) (other : ℕ) (r : Running) → StandsOk now at c other r → Follows running slot (Stands other r) → (IsFlushing r.stage → ⊥) → ⊥
+    stands_never at other r ok (inl p) still = p.1
+    stands_never at other r ok (inr (inl p)) still = p.1
+    stands_never at other r ok (inr (inr (inr (inr p)))) still = still p.1
+    stands_never at other r ok (inr (inr (inl p))) still = by (subst (λ (v : Running). How v) is ok.how) p.1
+      where
+        How : Running → Type 0
+        How v = SizesStand now at v ok.stage ok.pins ⊎ LockStand now c v ok.stage ⊎ StatStand now at c v ok.stage ok.pins ⊎ GetStand now c v ok.stage ok.pins ⊎ FlushStand now c v ok.stage ok.pins ⊎ ((ok.pins ≡ v.pins) × MovedStand now at c v ok.stage)
+
         is : ok.running ≡ running
-        is = one_running ok.running other ok.call same
+        is = one_running ok.running other ok.call p.2
 
-        new : running.asking ≡ Unasked
-        new = ap (λ (v : Running). v.asking) g.0.ok.is
+        uses : (stage : Stage) → ok.stage ≡ stage → UsesHeld c now running (used_in stage)
+        uses stage e = subst (λ (v : Running). UsesHeld c now v (used_in stage)) is (subst (λ (v : Stage). UsesHeld c now ok.running (used_in v)) e ok.uses)
 
-        by : BareSizesStand now at ok.running ok.stage ok.pins ⊎ (BareLockStand now c ok.running ok.stage ⊎ BareStatStand now at c ok.running ok.stage ok.pins) → IsDue c past running → ⊥
-        by how (inl bad) = let both : Plain ≡ Bad = sym plain ∙ bad in cc
-        by (inl k) (inr h) = subst IsStatCall (ap (λ (v : Running). v.call) (sym is) ∙ k.glimpses) stats
-        by (inr (inl k)) (inr h) = subst IsStatCall (ap (λ (v : Running). v.call) (sym is) ∙ k.read.reads) stats
-        by (inr (inr k)) (inr h) = stat_waits_none head c now grown at running ok.stage ok.pins plain new (known_now h.1 h.2) (subst (λ (v : Running). BareStatStand now at c v ok.stage ok.pins) is k)
+        by : How running → IsReadCall running.call → ⊥
+        by (inl k) read = no_read_call running.call (call.Glimpse k.has.handle) k.has.glimpses read (λ z. z)
+        by (inr (inl k)) read = ⊎_elim (λ (d : ReadsOn running k.work). lacks_never k.work d k.wider k.lacks) (λ (d : ChangesOn running k.work). changes_none k.work d read) k.does
+        by (inr (inr (inl k))) read = no_read_call running.call (call.Stat k.stat.path) k.stat.stats read (λ z. z)
+        by (inr (inr (inr (inl k)))) read = misses_never k.work k.does (uses (Gets k.work) k.is) k.wants k.page k.lacks
+        by (inr (inr (inr (inr (inl k))))) read = no_read_call running.call (call.Flush k.handle) k.flushes read (λ z. z)
+        by (inr (inr (inr (inr (inr k))))) read = never_moved now at c running ok.stage plain k.1
+    stands_never at other r ok (inr (inr (inr (inl p)))) still = by (subst (λ (v : Running). How v) is ok.how) p.1
+      where
+        How : Running → Type 0
+        How v = SizesStand now at v ok.stage ok.pins ⊎ LockStand now c v ok.stage ⊎ StatStand now at c v ok.stage ok.pins ⊎ GetStand now c v ok.stage ok.pins ⊎ FlushStand now c v ok.stage ok.pins ⊎ ((ok.pins ≡ v.pins) × MovedStand now at c v ok.stage)
 
-  asks_never : (c t : ℕ) (q : Queued) (now : List Line) → BareGrown head now → BareQueuesOk now c t q → (stamp : Stamp) (slot : ℕ) (running : Running) (past : List Line)
-      → BareGrown head (Begun c stamp slot running past) → Since c now (Begun c stamp slot running past)
-      → Follows running slot (Queues t q) → IsDue c past running → ⊥
-  asks_never c t q now grown ok stamp slot running past g s (inl p) due = p.1
-  asks_never c t q now grown ok stamp slot running past g s (inr (inl p)) (inl bad) = let both : Plain ≡ Bad = sym p.0 ∙ bad in cc
-  asks_never c t q now grown ok stamp slot running past g s (inr (inl p)) (inr h) = known_asks c stamp slot running now past g s t q grown ok p.1 p.0 h.0 h.1 h.2
-  asks_never c t q now grown ok stamp slot running past g s (inr (inr (inl p))) due = p.1
-  asks_never c t q now grown ok stamp slot running past g s (inr (inr (inr p))) due = p.2
+        is : ok.running ≡ running
+        is = one_running ok.running other ok.call p.2
 
-  waits_never : (c : ℕ) (at : At) (other : ℕ) (r : Running) (now : List Line) → BareGrown head now → BareStandsOk now at c other r → (stamp : Stamp) (slot : ℕ) (running : Running) (past : List Line)
-      → BareGrown head (Begun c stamp slot running past)
-      → Since c now (Begun c stamp slot running past) → Follows running slot (Stands other r) → IsDue c past running → ⊥
-  waits_never c at other r now grown ok stamp slot running past g s (inl p) due = p.1
-  waits_never c at other r now grown ok stamp slot running past g s (inr (inl p)) due = p.1
-  waits_never c at other r now grown ok stamp slot running past g s (inr (inr (inl p))) due = read_waits c stamp slot running now past g s at other r grown ok p.1 p.0 due
-  waits_never c at other r now grown ok stamp slot running past g s (inr (inr (inr p))) due = stat_waits c stamp slot running now past g s at other r grown ok p.2 p.0 p.1 due
+        by : How running → IsStatCall running.call → ⊥
+        by (inl k) stat = no_stat_call running.call (call.Glimpse k.has.handle) k.has.glimpses stat (λ z. z)
+        by (inr (inl k)) stat = ⊎_elim (λ (d : ReadsOn running k.work). no_stat_call running.call (call.Read d.read.handle d.read.offset d.read.count) d.read.reads stat (λ z. z)) (λ (d : ChangesOn running k.work). changes_no_stat k.work d stat) k.does
+        by (inr (inr (inl k))) stat = stat_waits_none head c now g at running ok.stage ok.pins (KnownRead (Free c now) c now) (ServedOf (Free c now)) serves plain new here.knows k
+        by (inr (inr (inr (inl k)))) stat = no_stat_call running.call (call.Read k.does.read.handle k.does.read.offset k.does.read.count) k.does.read.reads stat (λ z. z)
+        by (inr (inr (inr (inr (inl k))))) stat = no_stat_call running.call (call.Flush k.handle) k.flushes stat (λ z. z)
+        by (inr (inr (inr (inr (inr k))))) stat = never_moved now at c running ok.stage plain k.1
+
+  -- the same of each call of which something is due
+  due_plain : (c : ℕ) (past : List Line) (running : Running) (slot : ℕ) (e : Entry) → Follows running slot e → (Starts slot Bad e → ⊥) → IsDue c past running
+      → (running.stage ≡ Plain) × (MayKnow running.call × KnownAt c past running.call × Unmarked (held_at c past) × NoWrites c past × (is_over c (life_at c past) past ≡ false))
+  due_plain c past running slot e f none (inl bad) = by f
+    where
+      apart : running.stage ≡ Plain → ⊥
+      apart p = let q : Plain ≡ Bad = sym p ∙ bad in cc
+
+      by : Follows running slot e → (running.stage ≡ Plain) × (MayKnow running.call × KnownAt c past running.call × Unmarked (held_at c past) × NoWrites c past × (is_over c (life_at c past) past ≡ false))
+      by (inl p) = absurd (none p.1)
+      by (inr (inl p)) = absurd (apart p.0)
+      by (inr (inr (inl p))) = absurd (apart p.0)
+      by (inr (inr (inr (inl p)))) = absurd (apart p.0)
+      by (inr (inr (inr (inr p)))) = absurd (apart p.0)
+  due_plain c past running slot e f none (inr h) = (by f, h)
+    where
+      by : Follows running slot e → running.stage ≡ Plain
+      by (inl p) = absurd (none p.1)
+      by (inr (inl p)) = p.0
+      by (inr (inr (inl p))) = p.0
+      by (inr (inr (inr (inl p)))) = p.0
+      by (inr (inr (inr (inr p)))) = p.0
 
   -- ---- line by line
 
-  due_before : (past : List Line) (l : Line) (later : List PrintedLine) → BareGrown head (l ∷ past) → Due (l ∷ past) later → Due past (shown l.at (printed_entry (count_sent past + 1) l.entry) later)
-  due_before past l later g d = by l.at.node l.entry g d
+  due_before : (past : List Line) (l : Line) (later : List PrintedLine) → Run head (l ∷ past) → Due (l ∷ past) later → Due past (shown l.at (printed_entry (count_sent past + 1) l.entry) later)
+  due_before past l later y d = by l.at.node l.entry y d
     where
-      from_now : (c : ℕ) → Since c past past
-      from_now c = record { calls = λ slot. refl; files = λ h. refl; knows = λ k h. h }
+      by : (node : Node) (e : Entry) → Run head (line (turn l.at.stamp node) e ∷ past) → Due (line (turn l.at.stamp node) e ∷ past) later → Due past (shown (turn l.at.stamp node) (printed_entry (count_sent past + 1) e) later)
+      by node (Pins name) y d = d
+      by node (Unpins name) y d = d
+      by node (Told s named given work) y d = told_due (turn l.at.stamp node) s named given work later past y.grown.1 y.grown.0.owes
+      by (Client c) (Queues t q) y d =
+          never_due c (turn l.at.stamp (Client c)) refl (Queues t q) past later
+          (λ stamp slot running p g s f due. let h = due_plain c p running slot (Queues t q) f (λ z. z) due in
+          asks_never c stamp slot running p past (before head (line (turn l.at.stamp (Client c)) (Queues t q)) past y) s h.1 h.0 t q y.grown.0.ok f)
+          past y.grown.1 (since_self past) y.grown.0.owes
+      by (Client c) (WritesBack r change) y d =
+          never_due c (turn l.at.stamp (Client c)) refl (WritesBack r change) past later
+          (λ stamp slot running p g s f due. let h = due_plain c p running slot (WritesBack r change) f (λ z. z) due in
+          writes_never c stamp slot running p past (before head (line (turn l.at.stamp (Client c)) (WritesBack r change)) past y) s h.1 h.0 r change y.grown.0.ok)
+          past y.grown.1 (since_self past) y.grown.0.owes
+      by (Client c) (Stands s r) y d = ⊎_elim (λ (i : IsFlushing r.stage). over_out r.stage (Due past later) i d)
+          (λ (still : IsFlushing r.stage → ⊥). never_due c (turn l.at.stamp (Client c)) refl (Stands s r) past later
+          (λ stamp slot running p g since f due. let h = due_plain c p running slot (Stands s r) f (λ z. z) due in
+          stands_never c stamp slot running p past (before head (line (turn l.at.stamp (Client c)) (Stands s r)) past y) since h.1 h.0 (turn l.at.stamp (Client c)) s r y.grown.0.ok f still)
+          past y.grown.1 (since_self past) y.grown.0.owes)
+          (flushing_or r.stage)
+      by (Target u) (Queues t q) y d = absurd y.grown.0.ok
+      by (Target u) (Stands s r) y d = absurd y.grown.0.ok
+      by (Target u) (WritesBack r change) y d = absurd y.grown.0.ok
+      by node e y d = other_due (turn l.at.stamp node) e (λ slot s. s) (λ slot s. s) (λ slot s. s) (λ slot s. s) (λ s. s) _ past y.grown.1 y.grown.0.owes
 
-      by : (node : Node) (e : Entry) → BareGrown head (line (turn l.at.stamp node) e ∷ past) → Due (line (turn l.at.stamp node) e ∷ past) later → Due past (shown (turn l.at.stamp node) (printed_entry (count_sent past + 1) e) later)
-      by node (Pins name) g d = d
-      by node (Unpins name) g d = d
-      by node (Told s named given work) g d = told_due (turn l.at.stamp node) s named given work later past g.1 g.0.owes
-      by (Client c) (Queues t q) g d = never_due c (turn l.at.stamp (Client c)) refl (Queues t q) past later (asks_never c t q past g.1 g.0.ok) past g.1 (from_now c) g.0.owes
-      by (Client c) (Stands s r) g d = never_due c (turn l.at.stamp (Client c)) refl (Stands s r) past later (waits_never c (turn l.at.stamp (Client c)) s r past g.1 g.0.ok) past g.1 (from_now c) g.0.owes
-      by (Target u) (Queues t q) g d = absurd g.0.ok
-      by (Target u) (Stands s r) g d = absurd g.0.ok
-      by node e g d = other_due (turn l.at.stamp node) e (λ slot s. s) (λ slot s. s) (λ slot s. s) (λ slot s. s) _ past g.1 g.0.owes
-
-  silent_at : (past : List Line) (l : Line) (later : List PrintedLine) → BareAllowed head past l.at l.entry → BareGrown head past → Due (l ∷ past) later → Keeps Silent past l later
-  silent_at past l later k g d = by l.at.node l.entry k d
+  -- a life that begins a call isn't over
+  begins_alive : (c : ℕ) (past : List Line) (at : At) → Grown head past → Later past at → Closes past at → is_over c (life_at c past) past ≡ false
+  begins_alive c [] at g later closes = refl
+  begins_alive c (l ∷ past) at g later closes = by (is_over c (life_at c (l ∷ past)) (l ∷ past)) refl
     where
-      by : (node : Node) (e : Entry) → BareAllowed head past (turn l.at.stamp node) e → Due (line (turn l.at.stamp node) e ∷ past) later
+      by : (b : Bool) → is_over c (life_at c (l ∷ past)) (l ∷ past) ≡ b → b ≡ false
+      by false e = refl
+      by true e = absurd (⊎_elim (λ (same : l.at ≡ at). turn_irreflexive at (subst (λ (v : At). turn_before v at ≡ true) same later)) (λ (none : (d : ℕ) → Ending (l ∷ past) d → ⊥). none c (over_ending head (l ∷ past) g c e)) closes)
+
+  silent_at : (past : List Line) (l : Line) (later : List PrintedLine) → Run head (l ∷ past) → Due (l ∷ past) later → Keeps Silent past l later
+  silent_at past l later y d = by l.at.node l.entry y d
+    where
+      by : (node : Node) (e : Entry) → Run head (line (turn l.at.stamp node) e ∷ past) → Due (line (turn l.at.stamp node) e ∷ past) later
           → OfPrinted (SilentAt (printed past) (turn l.at.stamp node) later) (printed_entry (count_sent past + 1) e)
-      by (Client c) (Begin slot running) k d = begins k.ok.begins
+      by (Client c) (Begin slot running) y d = begins ok.begins
         where
-          begins : BareBegins c past running → is_repeat (who_is c (printed past)) (printed past) running.call ≡ true → is_told_silently slot (turn l.at.stamp (Client c)) later ≡ true
+          g : Grown head past
+          g = y.grown.1
+
+          ok : BeginOk past (turn l.at.stamp (Client c)) c slot running
+          ok = y.grown.0.ok
+
+          begins : Begins c past running → is_repeat (who_is c (printed past)) (printed past) running.call ≡ true → is_told_silently slot (turn l.at.stamp (Client c)) later ≡ true
           begins (inr bad) is = d c refl (inl bad.1)
           begins (inl good) is =
               let some = and_parts (list_any (same_reading running.call) (known (who_is c (printed past)) (printed past))) (not (has_write_lock (who_is c (printed past)) (held (printed past)))) is in
               let one = of_any (same_reading running.call) (known (who_is c (printed past)) (printed past)) some.0 in
-              let knows : KnownAt c past one.0 = every_in (KnownAt c past) one.0 (known (who_is c (printed past)) (printed past)) (known_is_known head c past g) one.1.0 in
+              let owed = none_owed c past (line (turn l.at.stamp (Client c)) (Begin slot running)) (y.heeds.0 c) (λ z. z) in
+              let none : NoWrites c past = no_writes head past g y.heeds.1 c owed (not-true (has_write_lock (who_is c (printed past)) (held (printed past))) some.1) in
+              let alive = begins_alive c past (turn l.at.stamp (Client c)) g ok.later y.grown.0.closes in
+              let knows : KnownAt c past one.0 = every_in (Promise c past) one.0 (known (who_is c (printed past)) (printed past)) (known_is_known head c past (before head (line (turn l.at.stamp (Client c)) (Begin slot running)) past y)) one.1.0 none alive in
               let same = same_is running.call one.0 one.1.1 in
-              d c refl (inr (same.1, subst (KnownAt c past) same.0 knows, repeats_unmarked head c past g one.0 one.1.0 k.ok.calm k.ok.ready))
-      by (Target t) (Begin slot running) k d = tt
-      by _ _ k d = tt
+              d c refl (inr (same.1, subst (KnownAt c past) same.0 knows, (λ h i p. repeats_unmarked head c past g none one.0 one.1.0 ok.calm ok.ready h i p), none, alive))
+      by (Target t) (Begin slot running) y d = tt
+      by _ _ y d = tt
 
-  pub silent_law : (past : List Line) → BareGrown head past → Settled past → Holds Silent (printed past)
-  silent_law past g settled =
-      holds_owed head Silent (BareGrown head) (λ l past k. k.1) Due (λ past l later g k d. due_before past l later k d) (λ past l later a g k d. silent_at past l later k.0 k.1 d) past [] (wide head past g) g (nothing_due past settled)
+  pub silent_law : (past : List Line) → Run head past → Settled past → Holds Silent (printed past)
+  silent_law past y settled =
+      holds_owed head Silent (Run head) (λ l past k. before head l past k) Due (λ past l later g y d. due_before past l later y d) (λ past l later a g y d. silent_at past l later y d) past [] y.grown y (nothing_due past settled)

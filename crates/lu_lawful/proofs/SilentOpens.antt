@@ -3,22 +3,26 @@
 use Rattle.std.proofs.Common.{◌≡◌, ℕ, zero, suc, ◌<◌, Bool, true, false, List, [], ◌∷◌, ◌⊎◌, inl, inr, ⊎_elim, Option, Some, None, refl, sym, subst, ap, ◌∙◌, arith}
 use Rattle.std.specs.Prelude.{nat_eq, ◌==◌, if◌then◌else◌, is_some}
 use Rattle.std.proofs.lemmas.Bool.{cond_both, eqb-true, or_parts}
+use Rattle.lu_base.specs.declared.ids.At.{At}
 use Rattle.lu_base.specs.declared.ids.Node.{Node}
 use Rattle.lu_base.specs.declared.ids.Node.TheVariants.{Client, Target}
+use Rattle.lu_base.specs.declared.ids.Who.{Who}
 use Rattle.lu_msg.specs.declared.calls.Call.{Call}
 use Rattle.lu_msg.specs.declared.calls.Call.TheVariants as call
-use Rattle.lu_words.specs.Carried.{HandleFile, Stage, Bad, Running}
+use Rattle.lu_msg.specs.declared.messages.Message.TheVariants as message
+use Rattle.lu_held.specs.declared.names.LockName.{LockName}
+use Rattle.lu_words.specs.Carried.{HandleFile, Work, Stage, Bad, Enqueued, Waits, Forgotten, Gets, Running}
 use Rattle.lu_words.specs.Words.{Entry, Begin, Told, Life, Line, line}
+use Rattle.lu_client_rows.specs.Recovery.{is_left_at}
 use Rattle.lu_client_rows.specs.Slots.{is_open_of, opens}
 use Rattle.lu_covered.specs.Calls.{call_at, opened, binds, told_file, begun_file, file_at, is_opening, is_bad}
 use Rattle.lu_covered.specs.Heads.{Head}
 use Rattle.lu_laws.specs.Words.Repeats.{rebinds}
-use Rattle.lu_guards.proofs.Guards.{Begins, IsGlimpse, Reads}
+use Rattle.lu_guards.proofs.Guards.{Begins, EntryOk, Took, Replied, ReadsOn, ChangesOn, SizesStand, LockStand, StatStand, GetStand, FlushStand, LockBrought, LockGranted, MovedStand}
 use Rattle.lu_guards.proofs.Lists.{self, turn}
 use Rattle.lu_guards.proofs.ClientLines.{SmallOn, small_on}
-use Rattle.lu_guards.proofs.Calls.{JustBegan, bad_unasked}
-use Rattle.lu_facts.proofs.BareGuards.{BareSizesStand, BareLockStand, BareStatStand, BareOk, BareGrown, wide}
-use Rattle.lu_facts.proofs.BareCases.{BareCame, bare_cases}
+use Rattle.lu_guards.proofs.Calls.{Came, JustBegan, call_cases, bad_unasked}
+use Rattle.lu_guards.proofs.Grown.{Grown}
 use Rattle.lu_lawful.proofs.SilentHeld.{gives_up}
 
 -- ---- a call that opens a handle, and isn't refused as it begins
@@ -31,8 +35,8 @@ pub record Opening (c : ℕ) (past : List Line) (slot h : ℕ) : Type 0 where
   pub good : running.stage ≡ Bad → ⊥
 
 -- then its handle is said to be opening
-opening_is : (head : Head) (c slot h : ℕ) (past : List Line) → BareGrown head past → Opening c past slot h → is_opening c h past ≡ false → ⊥
-opening_is head c slot h past g o none = by slot (subst (SmallOn slot) o.there (small_on head c slot past (wide head past g))) o.there
+opening_is : (head : Head) (c slot h : ℕ) (past : List Line) → Grown head past → Opening c past slot h → is_opening c h past ≡ false → ⊥
+opening_is head c slot h past g o none = by slot (subst (SmallOn slot) o.there (small_on head c slot past g)) o.there
   where
     it : (x : Option Running) → x ≡ Some o.running → opens h x ≡ true
     it x e = ap (opens h) e ∙ ap (is_open_of h) o.opens ∙ self h
@@ -67,28 +71,63 @@ begins_free c past r h path (inr b) is good = absurd (good b.1)
 abbrev Before : ℕ → List Line → Line → ℕ → ℕ → Type 0
 Before c past l slot h = Opening c past slot h ⊎ ((r : Running) × JustBegan (l ∷ past) c slot r × (file_at c h past ≡ None) × (is_opening c h past ≡ false))
 
-opening_before : (head : Head) (c slot h : ℕ) (l : Line) (past : List Line) → BareGrown head (l ∷ past) → Opening c (l ∷ past) slot h → Before c past l slot h
-opening_before head c slot h l past g o = by (bare_cases head past l.at.stamp l.at.node l.entry g.0 c slot o.running o.there)
+-- a call that opens isn't one that stands, and one that was refused stands nowhere else
+abbrev NotOpen : Call → Type 0
+NotOpen (call.Open h path) = ⊥
+NotOpen _ = Unit {0}
+
+abbrev NotBad : Stage → Type 0
+NotBad Bad = ⊥
+NotBad _ = Unit {0}
+
+module _ (past : List Line) (at : At) (c : ℕ) (q : Running) (h : ℕ) (path : List (List ℕ)) (is : q.call ≡ call.Open h path) (bad : q.stage ≡ Bad) where
+  other : (k : Call) → q.call ≡ k → NotOpen k → ⊥
+  other k e w = subst NotOpen (sym e ∙ is) w
+
+  elsewhere : (s : Stage) → q.stage ≡ s → NotBad s → ⊥
+  elsewhere s e w = subst NotBad (sym e ∙ bad) w
+
+  changes : {w : Work} → ChangesOn q w → ⊥
+  changes (inl d) = other (call.Write d.handle d.offset d.bytes) d.writes tt
+  changes (inr d) = other (call.Cut d.handle d.size) d.cuts tt
+
+  moved_on : (stage : Stage) → MovedStand past at c q stage → ⊥
+  moved_on stage (inl k) = ⊎_elim (λ (b : LockBrought past at q k.work k.lock). elsewhere (Enqueued k.work) b.stage tt) (λ (b : LockGranted past at q k.work k.lock). elsewhere (Waits k.work b.target b.waiting b.marked) b.stage tt) k.from
+  moved_on stage (inr (inl k)) = elsewhere (Enqueued k.work) k.before tt
+  moved_on stage (inr (inr (inl k))) = elsewhere (Waits k.work k.target k.lock k.marked) k.before tt
+  moved_on stage (inr (inr (inr (inl k)))) = elsewhere (Waits k.work k.target k.lock k.marked) k.before tt
+  moved_on stage (inr (inr (inr (inr k)))) = by k.from
+    where
+      by : ((q.stage ≡ Forgotten k.work) × ((t : ℕ) × (who : Who) × (boot committed : ℕ) × Took past at (Target t) (message.Ready who boot (record { 0 = committed })) × (is_left_at t k.work.left ≡ true))) ⊎ ((q.stage ≡ Gets k.work) × Replied past at q) → ⊥
+      by (inl f) = elsewhere (Forgotten k.work) f.0 tt
+      by (inr f) = elsewhere (Gets k.work) f.0 tt
+
+  stands_not : (stage : Stage) (pins : List LockName)
+      → SizesStand past at q stage pins ⊎ LockStand past c q stage ⊎ StatStand past at c q stage pins ⊎ GetStand past c q stage pins ⊎ FlushStand past c q stage pins ⊎ ((pins ≡ q.pins) × MovedStand past at c q stage) → ⊥
+  stands_not stage pins (inl k) = other (call.Glimpse k.has.handle) k.has.glimpses tt
+  stands_not stage pins (inr (inl k)) = ⊎_elim (λ (d : ReadsOn q k.work). other (call.Read d.read.handle d.read.offset d.read.count) d.read.reads tt) (λ (d : ChangesOn q k.work). changes d) k.does
+  stands_not stage pins (inr (inr (inl k))) = other (call.Stat k.stat.path) k.stat.stats tt
+  stands_not stage pins (inr (inr (inr (inl k)))) = other (call.Read k.does.read.handle k.does.read.offset k.does.read.count) k.does.read.reads tt
+  stands_not stage pins (inr (inr (inr (inr (inl k))))) = k.good bad
+  stands_not stage pins (inr (inr (inr (inr (inr k))))) = moved_on stage k.1
+
+opening_before : (head : Head) (c slot h : ℕ) (l : Line) (past : List Line) → Grown head (l ∷ past) → Opening c (l ∷ past) slot h → Before c past l slot h
+opening_before head c slot h l past g o = by (call_cases past l.at.stamp l.at.node l.entry g.0.ok c slot o.running o.there)
   where
-    no_read : (r : Running) → r.call ≡ call.Open h o.path → Reads r → ⊥
-    no_read r is k = let e : call.Open h o.path ≡ call.Read k.handle k.offset k.count = sym is ∙ k.reads in cc
-
-    no_glimpse : (r : Running) (g : ℕ) → r.call ≡ call.Open h o.path → IsGlimpse r g → ⊥
-    no_glimpse r g is k = let e : call.Open h o.path ≡ call.Glimpse g = sym is ∙ k in cc
-
-    by : BareCame past (turn l.at.stamp l.at.node) l.at.node l.entry c slot o.running → Before c past l slot h
+    by : Came past (turn l.at.stamp l.at.node) l.at.node l.entry c slot o.running → Before c past l slot h
     by (inl e) = inl (record { running = o.running; there = e; path = o.path; opens = o.opens; good = o.good })
     by (inr (inl b)) = let f = begins_free c past o.running h o.path b.begins o.opens o.good in inr (o.running, b.newest, f.0, f.1)
     by (inr (inr (inl t))) = inl (record { running = t.before; there = t.call; path = o.path; opens = t.same ∙ o.opens; good = λ bad. o.good (sym t.stage ∙ bad) })
     by (inr (inr (inr s))) =
-        let is : s.stands.running.call ≡ call.Open h o.path = ap (λ (v : Running). v.call) (sym s.stands.is) ∙ o.opens in
-        absurd (⊎_elim
-        (λ (k : BareSizesStand past (turn l.at.stamp l.at.node) s.stands.running s.stands.stage s.stands.pins). no_glimpse s.stands.running k.handle is k.glimpses)
-        (λ (w : BareLockStand past c s.stands.running s.stands.stage ⊎ BareStatStand past (turn l.at.stamp l.at.node) c s.stands.running s.stands.stage s.stands.pins). ⊎_elim
-        (λ (k : BareLockStand past c s.stands.running s.stands.stage). no_read s.stands.running is k.read)
-        (λ (k : BareStatStand past (turn l.at.stamp l.at.node) c s.stands.running s.stands.stage s.stands.pins). let e : call.Open h o.path ≡ call.Stat k.stat.path = sym is ∙ k.stat.stats in absurd (cc))
-        w)
-        s.stands.how)
+        let k = s.stands in
+        let is : k.running.call ≡ call.Open h o.path = ap (λ (v : Running). v.call) (sym k.is) ∙ o.opens in
+        inl (record {
+          running = k.running;
+          there = k.call;
+          path = o.path;
+          opens = is;
+          good = λ bad. stands_not past (turn l.at.stamp l.at.node) c k.running h o.path is bad k.stage k.pins k.how;
+        })
 
 -- ---- what is opened isn't bound, and is opened once
 
@@ -108,8 +147,8 @@ told_none h (Some x) f old = by x.call refl
     by _ e = refl
 
 -- one that is refused as it begins was told nothing
-bad_opens : (head : Head) (c slot : ℕ) (past : List Line) (r : Running) → BareGrown head past → call_at c slot past ≡ Some r → r.stage ≡ Bad → opened r.asking ≡ None
-bad_opens head c slot past r g is bad = ap opened (bad_unasked head past (wide head past g) c slot r is bad)
+bad_opens : (head : Head) (c slot : ℕ) (past : List Line) (r : Running) → Grown head past → call_at c slot past ≡ Some r → r.stage ≡ Bad → opened r.asking ≡ None
+bad_opens head c slot past r g is bad = ap opened (bad_unasked head past g c slot r is bad)
 
 is_stage_bad : (s : Stage) → (s ≡ Bad) ⊎ (s ≡ Bad → ⊥)
 is_stage_bad Bad = inl refl
@@ -122,7 +161,7 @@ begun_none h k = refl
 abbrev Alone : ℕ → List Line → ℕ → ℕ → Type 0
 Alone c past slot h = (file_at c h past ≡ None) × ((other : ℕ) → Opening c past other h → other ≡ slot)
 
-alone_after : (head : Head) (c : ℕ) (l : Line) (past : List Line) → BareGrown head (l ∷ past) → ((slot h : ℕ) → Opening c past slot h → Alone c past slot h) → (slot h : ℕ) → Opening c (l ∷ past) slot h → Alone c (l ∷ past) slot h
+alone_after : (head : Head) (c : ℕ) (l : Line) (past : List Line) → Grown head (l ∷ past) → ((slot h : ℕ) → Opening c past slot h → Alone c past slot h) → (slot h : ℕ) → Opening c (l ∷ past) slot h → Alone c (l ∷ past) slot h
 alone_after head c l past g before slot h o = (unbound l.at.node l.entry g.0.ok o, alone)
   where
     -- which began in the line finds no other
@@ -150,7 +189,7 @@ alone_after head c l past g before slot h o = (unbound l.at.node l.entry g.0.ok 
     was : file_at c h past ≡ None
     was = free (opening_before head c slot h l past g o)
 
-    unbound : (node : Node) (e : Entry) → BareOk past (turn l.at.stamp node) node e → Opening c (line (turn l.at.stamp node) e ∷ past) slot h → file_at c h (line (turn l.at.stamp node) e ∷ past) ≡ None
+    unbound : (node : Node) (e : Entry) → EntryOk past (turn l.at.stamp node) node e → Opening c (line (turn l.at.stamp node) e ∷ past) slot h → file_at c h (line (turn l.at.stamp node) e ∷ past) ≡ None
     unbound (Client d) (Begin s running) ok k =
         cond_both (nat_eq c d) (begun_file h running.call (file_at c h past)) (file_at c h past) (λ (v : Option HandleFile). v ≡ None)
         (λ t. ap (begun_file h running.call) was ∙ begun_none h running.call) (λ t. was)
@@ -194,7 +233,7 @@ alone_after head c l past g before slot h o = (unbound l.at.node l.entry g.0.ok 
     unbound (Target u) (Life w) ok k = absurd ok
     unbound node e ok k = was
 
-pub open_alone : (head : Head) (c : ℕ) (past : List Line) → BareGrown head past → (slot h : ℕ) → Opening c past slot h → Alone c past slot h
+pub open_alone : (head : Head) (c : ℕ) (past : List Line) → Grown head past → (slot h : ℕ) → Opening c past slot h → Alone c past slot h
 open_alone head c [] g slot h o = let none = o.there in absurd (cc)
 open_alone head c (l ∷ past) g slot h o = alone_after head c l past g (open_alone head c past g.1) slot h o
 
@@ -209,7 +248,7 @@ closes_other : (h offset count : ℕ) (k : Call) (old : Option HandleFile) → r
 closes_other h offset count (call.Close other) old e = ap (λ (b : Bool). if b then None else old) e
 closes_other h offset count k old e = refl
 
-pub file_still : (head : Head) (c h offset count : ℕ) (l : Line) (past : List Line) (f : HandleFile) → BareGrown head (l ∷ past) → gives_up c l.at.node l.entry ≡ false
+pub file_still : (head : Head) (c h offset count : ℕ) (l : Line) (past : List Line) (f : HandleFile) → Grown head (l ∷ past) → gives_up c l.at.node l.entry ≡ false
     → KeepsHandles c l.at.node l.entry (call.Read h offset count) → file_at c h past ≡ Some f
     → file_at c h (l ∷ past) ≡ Some f
 file_still head c h offset count l past f g stays keeps is = by l.at.node l.entry g.0.ok stays keeps
@@ -217,7 +256,7 @@ file_still head c h offset count l past f g stays keeps is = by l.at.node l.entr
     opened_none : (s : ℕ) → Opening c past s h → ⊥
     opened_none s o = let none : file_at c h past ≡ None = (open_alone head c past g.1 s h o).0 in cc
 
-    by : (node : Node) (e : Entry) → BareOk past (turn l.at.stamp node) node e → gives_up c node e ≡ false → KeepsHandles c node e (call.Read h offset count) → file_at c h (line (turn l.at.stamp node) e ∷ past) ≡ Some f
+    by : (node : Node) (e : Entry) → EntryOk past (turn l.at.stamp node) node e → gives_up c node e ≡ false → KeepsHandles c node e (call.Read h offset count) → file_at c h (line (turn l.at.stamp node) e ∷ past) ≡ Some f
     by (Client d) (Begin s running) ok st k =
         cond_both (nat_eq c d) (begun_file h running.call (file_at c h past)) (file_at c h past) (λ (v : Option HandleFile). v ≡ Some f) (λ t. closes_other h offset count running.call (file_at c h past) (k t) ∙ is) (λ t. is)
     by (Client d) (Told s named given work) ok st k =

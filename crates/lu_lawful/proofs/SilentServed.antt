@@ -1,6 +1,6 @@
 -- A call that repeats one whose answer is known begins while no held lock is marked that isn't pinned. What a life knows goes with the news of a boot in which
 -- a target doesn't serve it yet, and no call is calm that begins before it does; and of a target that a life joins it holds nothing.
-use Rattle.std.proofs.Common.{◌≡◌, ℕ, ◌+◌, ◌≤◌, Bool, true, false, List, [], ◌∷◌, ◌++◌, Option, Some, inl, inr, refl, sym, subst, ap, ◌∙◌, arith}
+use Rattle.std.proofs.Common.{◌≡◌, ℕ, ◌+◌, Bool, true, false, List, [], ◌∷◌, ◌++◌, Option, Some, inl, inr, refl, sym, subst, ap, ◌∙◌, arith}
 use Rattle.std.specs.Prelude.{nat_eq, not, ◌==◌, ◌&&◌, ◌||◌, if◌then◌else◌, length, filter}
 use Rattle.std.specs.Option.{option_map}
 use Rattle.std.proofs.lemmas.Bool.{cond_both, cond-true, and_parts, eqb-true, or_parts}
@@ -10,23 +10,21 @@ use Rattle.lu_base.specs.declared.ids.Node.{Node}
 use Rattle.lu_base.specs.declared.ids.Node.TheVariants.{Client, Target}
 use Rattle.lu_base.specs.declared.ids.Stamp.{Stamp}
 use Rattle.lu_base.specs.declared.ids.Who.{Who}
+use Rattle.lu_base.specs.declared.locks.Mode.TheVariants.{PW}
 use Rattle.lu_msg.specs.declared.answers.Answer.{Answer}
 use Rattle.lu_msg.specs.declared.calls.Call.{Call}
 use Rattle.lu_msg.specs.declared.messages.Message.{Message}
 use Rattle.lu_msg.specs.declared.messages.Message.TheVariants as message
-use Rattle.lu_held.specs.declared.locks.Change.TheVariants as lock
 use Rattle.lu_held.specs.declared.locks.HeldLock.{HeldLock}
 use Rattle.lu_held.specs.Locks.{named}
-use Rattle.lu_held.specs.Held.{changed, used, without, unmarked}
-use Rattle.lu_words.specs.Carried.{Flight}
-use Rattle.lu_words.specs.Words.{Entry, Begin, Take, Heard, Hold, Drop, Told, Life, Flies, Knows, Serves, Pins, Unpins, Marks, Unmarks, Line, line, same_life}
+use Rattle.lu_words.specs.Words.{Entry, Begin, Take, Drop, Told, Life, Knows, Serves, Line, line, same_life}
 use Rattle.lu_words.specs.Concerns.{only}
 use Rattle.lu_words.specs.Printed.{printed}
-use Rattle.lu_client_rows.specs.Caches.{held_as, with_held, brought, with_brought, held_at}
-use Rattle.lu_covered.specs.ClientStates.{life_of, known_of, standing_of, flights_of}
+use Rattle.lu_client_rows.specs.Caches.{held_at}
+use Rattle.lu_covered.specs.ClientStates.{known_of}
 use Rattle.lu_covered.specs.Calls.{life_at}
 use Rattle.lu_covered.specs.Heads.{Head}
-use Rattle.lu_covered.specs.Imports.{Standing, Joining, Recovering, Serving, interrupted, flights_after, standing_at, known_at}
+use Rattle.lu_covered.specs.Imports.{Standing, Joining, Recovering, Serving, interrupted, standing_at, known_at}
 use Rattle.lu_laws.specs.Words.Pasts.{Past}
 use Rattle.lu_laws.specs.Words.Sends.{Sending, sending, message_of}
 use Rattle.lu_laws.specs.Words.Lives.{life, who_is, is_by}
@@ -34,102 +32,16 @@ use Rattle.lu_laws.specs.Words.Repeats.{disturbs, unready_with, unready_after, u
 use Rattle.lu_guards.proofs.Guards.{In, Was, TookNow, is_ready_for, is_welcome}
 use Rattle.lu_guards.proofs.Grown.{Allowed, Grown}
 use Rattle.lu_guards.proofs.Held.{held_in}
-use Rattle.lu_guards.proofs.Lists.{self, in_filter, in_filtered, life_is, life_self}
+use Rattle.lu_guards.proofs.Lists.{self, in_filtered, life_self}
 use Rattle.lu_laws.proofs.Tests.{clash}
 use Rattle.lu_guards.proofs.Only.{told_by_target, grown_of}
 use Rattle.lu_guards.proofs.Parts.{standing_is, known_is, life_is_of}
 use Rattle.lu_facts.proofs.Groups.{turn}
-use Rattle.lu_facts.proofs.Lives.{still_joins}
 use Rattle.lu_facts.proofs.All.{holds_at}
-use Rattle.lu_facts.proofs.BareGuards.{BareOf, BareGrown, BareGrownOf, wide, wide_of}
-use Rattle.lu_facts.proofs.Bare.{bare_grown_of}
+use Rattle.lu_facts.proofs.RecoversTold.{joins_holds}
 use Rattle.lu_lawful.proofs.Printed.{flip, sending_is}
-use Rattle.lu_lawful.proofs.SilentHeld.{Unmarked}
 use Rattle.lu_lawful.proofs.SilentReady.{ready_own}
-
--- ---- a life that joins holds nothing, and nothing of it is in flight
-
-module _ (head : Head) (c : ℕ) where
-  abbrev Bare : List Line → Type 0
-  Bare p = (held_at c p ≡ []) × ((f : Flight) → In f (flights_of (life_of c p) p) → ⊥)
-
-  joins_bare : (p : List Line) → BareGrownOf head p → standing_of c p ≡ Joining → Bare p
-  joins_bare [] g s = (refl, λ f i. i)
-  joins_bare (l ∷ p) g s = by l.at.node l.entry g.0 s (joins_bare p g.3)
-    where
-      S : Standing
-      S = standing_of c p
-
-      H : List HeldLock
-      H = held_at c p
-
-      W : Who
-      W = life_of c p
-
-      F : List Flight
-      F = flights_of W p
-
-      none : (b : Bool) (more : List HeldLock) → (b ≡ true → more ≡ []) → H ≡ [] → (if b then more else H) ≡ []
-      none true more e h = e refl
-      none false more e h = h
-
-      its : (d : ℕ) → same_life W (life_of d p) ≡ true → c ≡ d
-      its d e = let phase = (holds_at head p (wide_of head p g.3)).phase in sym (phase.client c) ∙ ap (λ (v : Who). v.client) (life_is W (life_of d p) e) ∙ phase.client d
-
-      by : (node : Node) (e : Entry) → BareOf head p (turn l.at.stamp node) node e → standing_of c (line (turn l.at.stamp node) e ∷ p) ≡ Joining → (S ≡ Joining → Bare p) → Bare (line (turn l.at.stamp node) e ∷ p)
-      by (Client d) (Knows t b) ok s ih = ih (cond_both (nat_eq c d) (interrupted S) S (λ (v : Standing). v ≡ Joining → S ≡ Joining) (λ q r. still_joins S r) (λ q r. r) s)
-      by (Client d) (Serves t b) ok s ih = ih (cond_both (nat_eq c d) Serving S (λ (v : Standing). v ≡ Joining → S ≡ Joining) (λ q r. absurd (cc)) (λ q r. r) s)
-      by (Client d) (Life w) ok s ih = of (nat_eq c d) refl s
-        where
-          of : (b : Bool) → nat_eq c d ≡ b → (if b then Joining else S) ≡ Joining → (H ≡ []) × ((f : Flight) → In f (flights_of (if b then w else W) p) → ⊥)
-          of true e r = (
-            ap (λ (v : ℕ). held_at v p) (eqb-true c d e) ∙ ok.empty,
-            λ f i.
-                let h = holds_at head p (wide_of head p g.3) in
-                let client : w.client ≡ d = ap (λ (v : Who). v.client) ok.next ∙ h.phase.client d in
-                let next : w.life ≡ (life_of d p).life + 1 = ap (λ (v : Who). v.life) ok.next in
-                let low : w.life ≤ (life_of d p).life = subst (λ (v : ℕ). w.life ≤ (life_of v p).life) client (h.numbers.lived w f (h.numbers.flying w f i)) in
-                absurd (omega arith),
-          )
-          of false e r = ih r
-      by (Client d) (Flies t f) ok s ih =
-          let h = ih s in (
-            h.0,
-            λ x i. cond_both (same_life W (life_of d p)) (flights_after F (Flies t f)) F (λ (v : List Flight). In x v → ⊥)
-                (λ q j. let serves : standing_of c p ≡ Serving = subst (λ (v : ℕ). standing_of v p ≡ Serving) (sym (its d q)) ok.serves in absurd (cc))
-                (λ q j. h.1 x j) i,
-          )
-      by (Client d) (Heard t f r) ok s ih =
-          let h = ih s in (
-            none (nat_eq c d) (with_brought t (brought f.op r) H) (λ q. absurd (h.1 f (subst (λ (v : ℕ). In f (flights_of (life_of v p) p)) (sym (eqb-true c d q)) ok.flying))) h.0,
-            λ x i. cond_both (same_life W (life_of d p)) (flights_after F (Heard t f r)) F (λ (v : List Flight). In x v → ⊥)
-                (λ q j. h.1 x (in_filter (λ (y : Flight). not (nat_eq y.xid f.xid)) x F j).0)
-                (λ q j. h.1 x j) i,
-          )
-      by (Client d) (Hold t x marked size seen) ok s ih =
-          let h = ih s in (
-            none (nat_eq c d) (with_held (held_as t x marked) H)
-                (λ q. absurd (subst (λ (v : List HeldLock). In (held_as t x false) v) h.0 (subst (λ (v : ℕ). In (held_as t x false) (held_at v p)) (sym (eqb-true c d q)) ok.1.held)))
-                h.0,
-            h.1,
-          )
-      by (Client d) (Drop t x) ok s ih = let h = ih s in (none (nat_eq c d) (without (named (record { 0 = t }) x.cookie) H) (λ q. ap (without (named (record { 0 = t }) x.cookie)) h.0) h.0, h.1)
-      by (Client d) (Pins name) ok s ih = let h = ih s in (none (nat_eq c d) (changed name lock.Pin H) (λ q. ap (changed name lock.Pin) h.0) h.0, h.1)
-      by (Client d) (Unpins name) ok s ih = let h = ih s in (none (nat_eq c d) (used name (changed name lock.Unpin H)) (λ q. ap (λ (v : List HeldLock). used name (changed name lock.Unpin v)) h.0) h.0, h.1)
-      by (Client d) (Marks name) ok s ih = let h = ih s in (none (nat_eq c d) (changed name lock.Mark H) (λ q. ap (changed name lock.Mark) h.0) h.0, h.1)
-      by (Client d) (Unmarks t) ok s ih = let h = ih s in (none (nat_eq c d) (unmarked (record { 0 = t }) H) (λ q. ap (unmarked (record { 0 = t })) h.0) h.0, h.1)
-      by (Target u) (Knows t b) ok s ih = absurd ok
-      by (Target u) (Serves t b) ok s ih = absurd ok
-      by (Target u) (Life w) ok s ih = absurd ok
-      by (Target u) (Flies t f) ok s ih = absurd ok
-      by (Target u) (Heard t f r) ok s ih = absurd ok
-      by (Target u) (Hold t x marked size seen) ok s ih = absurd ok
-      by (Target u) (Drop t x) ok s ih = absurd ok
-      by (Target u) (Pins name) ok s ih = absurd ok
-      by (Target u) (Unpins name) ok s ih = absurd ok
-      by (Target u) (Marks name) ok s ih = absurd ok
-      by (Target u) (Unmarks t) ok s ih = absurd ok
-      by _ _ ok s ih = ih s
+use Rattle.lu_lawful.proofs.SilentWorlds.{NoWrites}
 
 -- ---- a life that recovers knows nothing, and no call of it is calm: it was told a boot in which a target doesn't serve it yet
 
@@ -315,10 +227,10 @@ module _ (head : Head) (c u : ℕ) where
 
 -- ---- so where an answer is known, no held lock is marked as a call begins that isn't pinned
 
-pub repeats_unmarked : (head : Head) (c : ℕ) (past : List Line) → BareGrown head past → (k : Call) → In k (known (who_is c (printed past)) (printed past))
-    → ((h : HeldLock) → In h (held_at c past) → standing_at c h.target.0 past ≡ Serving → h.pins ≡ 0 → h.marked ≡ false)
-    → ((t : ℕ) → is_welcome c t past ≡ false) → Unmarked (held_at c past)
-repeats_unmarked head c past g k i calm ready h j free = by (standing_at c h.target.0 past) refl
+pub repeats_unmarked : (head : Head) (c : ℕ) (past : List Line) → Grown head past → NoWrites c past → (k : Call) → In k (known (who_is c (printed past)) (printed past))
+    → ((h : HeldLock) → In h (held_at c past) → standing_at c h.target.0 past ≡ Serving → h.pins ≡ 0 → (h.lock.ask.mode ≡ PW → ⊥) → h.marked ≡ false)
+    → ((t : ℕ) → is_welcome c t past ≡ false) → (h : HeldLock) → In h (held_at c past) → h.pins ≡ 0 → h.marked ≡ false
+repeats_unmarked head c past g reads k i calm ready h j free = by (standing_at c h.target.0 past) refl
   where
     t : ℕ
     t = h.target.0
@@ -327,6 +239,6 @@ repeats_unmarked head c past g k i calm ready h j free = by (standing_at c h.tar
     there = held_in c past h j
 
     by : (s : Standing) → standing_at c t past ≡ s → h.marked ≡ false
-    by Serving e = calm h j e free
-    by Joining e = absurd (subst (λ (v : List HeldLock). In h v) (joins_bare head c (only t past) (bare_grown_of head t past g) (sym (standing_is c t past) ∙ e)).0 there)
-    by Recovering e = absurd (subst (λ (v : List Call). In k v) (stopped head c t past (wide head past g) e (ready t)).knows i)
+    by Serving e = calm h j e free (reads h j)
+    by Joining e = absurd (subst (λ (v : List HeldLock). In h v) (joins_holds head (only t past) (holds_at head (only t past) (grown_of head t past g)) c (sym (standing_is c t past) ∙ e)) there)
+    by Recovering e = absurd (subst (λ (v : List Call). In k v) (stopped head c t past g e (ready t)).knows i)

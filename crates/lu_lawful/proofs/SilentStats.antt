@@ -7,7 +7,6 @@ use Rattle.lu_base.specs.declared.ids.At.{At}
 use Rattle.lu_base.specs.declared.ids.Fid.{Fid}
 use Rattle.lu_base.specs.declared.ids.Node.TheVariants.{Client}
 use Rattle.lu_base.specs.declared.ids.Who.{Who}
-use Rattle.lu_base.specs.declared.locks.Lock.{Lock}
 use Rattle.lu_layout.specs.Raid0.{Raid0}
 use Rattle.lu_part.specs.declared.parts.Part.{Part}
 use Rattle.lu_part.specs.declared.parts.Part.TheVariants as part
@@ -18,10 +17,11 @@ use Rattle.lu_msg.specs.declared.calls.Call.TheVariants as call
 use Rattle.lu_msg.specs.declared.messages.Reply.{Reply as ReplyTo}
 use Rattle.lu_held.specs.declared.locks.Use.{Use}
 use Rattle.lu_held.specs.declared.names.LockName.{LockName}
+use Rattle.lu_held.specs.Held.{serving}
 use Rattle.lu_machine.specs.declared.child.Child.TheVariants.{Dir, File}
 use Rattle.lu_machine.specs.Tree.{Tree, attributes, layout}
 use Rattle.lu_target_rows.specs.Lives.{is_life}
-use Rattle.lu_words.specs.Carried.{HandleFile, Unasked, Answered, Stats, Work, Stage, Plain, Bad, Enqueued, Came as CameLock, Sizes, Running}
+use Rattle.lu_words.specs.Carried.{Unasked, Answered, Kind, Work, Stage, Plain, Running}
 use Rattle.lu_words.specs.Words.{Line}
 use Rattle.lu_words.specs.Concerns.{only}
 use Rattle.lu_words.specs.Printed.{printed}
@@ -36,25 +36,24 @@ use Rattle.lu_covered.specs.Heads.{Head}
 use Rattle.lu_covered.specs.TargetStates.{server_of, evicted_of}
 use Rattle.lu_laws.specs.Words.Lives.{who_is}
 use Rattle.lu_laws.specs.Words.Repeats.{calm}
-use Rattle.lu_guards.proofs.Guards.{In, Begins, LacksOf, KnowsFile, ToldFile, Locked}
+use Rattle.lu_guards.proofs.Guards.{In, Begins, KnowsFile, ToldFile, GoesOn, ReadsOn, ChangesOn, SizesStand, LockStand, StatOf, StatStand, GetStand, FlushStand, MovedStand, StandsOk, StatToldOk, wanted_by, work_in}
+use Rattle.lu_guards.proofs.Calls.{Came, Stood, call_cases}
 use Rattle.lu_guards.proofs.Grown.{Grown, GrownOf}
 use Rattle.lu_guards.proofs.Only.{grown_of}
 use Rattle.lu_guards.proofs.ClientLooks.{lacks_in}
 use Rattle.lu_facts.proofs.Groups.{turn}
 use Rattle.lu_facts.proofs.All.{holds_at}
-use Rattle.lu_facts.proofs.BareGuards.{BareGoesOn, BareSizesStand, BareLockStand, BareStatOf, BareStatStand, BareStandsOk, BareStatToldOk, BareGrown, wide}
-use Rattle.lu_facts.proofs.BareCases.{BareStood, BareCame, bare_cases}
 use Rattle.lu_facts.proofs.KnownPaths.{Usable, UsedBy, LedBy, FileBy, Tells, TellsAttr, TellsOf, OneKind, part_is, placed_reached, led_more, file_more, led_used, file_used, file_right, after_name}
 use Rattle.lu_facts.proofs.PartsStay.{sound_now}
 use Rattle.lu_facts.proofs.Taught.{tree_for}
 use Rattle.lu_facts.proofs.ToldFiles.{FileKnown, told_file}
 use Rattle.lu_facts.proofs.TaughtKnown.{Agrees, fact_found, fact_there, name_there, one_name, same_inode}
-use Rattle.lu_facts.proofs.StatFacts.{one_path}
+use Rattle.lu_facts.proofs.StatFacts.{AtWork, one_work, moved_work, one_path}
 use Rattle.lu_lawful.proofs.SilentKnown.{Grows, IsKnown, known_more}
 use Rattle.lu_lawful.proofs.SilentHeld.{bare_at, grows_to_bare, notes_grow}
 use Rattle.lu_lawful.proofs.SilentAgrees.{tree, bound, is_true, agrees}
 use Rattle.lu_lawful.proofs.SilentCalm.{calm_before, calm_stays}
-use Rattle.lu_lawful.proofs.SilentReading.{ReadKnown, Free, files_at, read_more, calm_locked, free_serves, rest_with}
+use Rattle.lu_lawful.proofs.SilentReading.{ToRead, rest_with}
 
 -- ---- a stat of a file that is known
 
@@ -76,20 +75,18 @@ abbrev pub StatKnown : Notes → (Use → Type 0) → Call → Type 0
 StatKnown n L (call.Stat path) = StatBy n L path
 StatKnown n L _ = ⊥
 
--- ---- what is known of a call: by facts, by locks on objects, or by both
+-- ---- what is known of a call: by facts, by what is known of bytes, or by locks on objects
 
-abbrev pub KnownBy : Notes → (ℕ → Option HandleFile) → (Use → Type 0) → Call → Type 0
-KnownBy n F L k = (IsKnown n k × ReadKnown F L k) ⊎ StatKnown n L k
+abbrev pub KnownBy : Notes → (Call → Type 0) → (Use → Type 0) → Call → Type 0
+KnownBy n R L k = (IsKnown n k × R k) ⊎ StatKnown n L k
 
 stat_more : (n m : Notes) (L M : Use → Type 0) (k : Call) → Grows n m → ((u : Use) → L u → M u) → StatKnown n L k → StatKnown m M k
 stat_more n m L M (call.Stat path) grows more h = record { fid = h.fid; layout = h.layout; file = some_more n m grows path h.fid h.layout h.file; locked = λ wanted i. more wanted (h.locked wanted i) }
 stat_more n m L M k grows more h = absurd h
 
-pub by_more : (n m : Notes) (F G : ℕ → Option HandleFile) (L M : Use → Type 0) (k : Call) → Grows n m → Agrees m
-    → ((h offset count : ℕ) (f : HandleFile) → k ≡ call.Read h offset count → F h ≡ Some f → G h ≡ Some f) → ((u : Use) → L u → M u)
-    → KnownBy n F L k → KnownBy m G M k
-by_more n m F G L M k grows agrees files more (inl h) = inl (known_more n m grows agrees k h.0, read_more F G L M k files more h.1)
-by_more n m F G L M k grows agrees files more (inr h) = inr (stat_more n m L M k grows more h)
+pub by_more : (n m : Notes) (R S : Call → Type 0) (L M : Use → Type 0) (k : Call) → Grows n m → Agrees m → (R k → S k) → ((u : Use) → L u → M u) → KnownBy n R L k → KnownBy m S M k
+by_more n m R S L M k grows agrees reads more (inl h) = inl (known_more n m grows agrees k h.0, reads h.1)
+by_more n m R S L M k grows agrees reads more (inr h) = inr (stat_more n m L M k grows more h)
 
 -- ---- the tree that a life knew has one inode of a number
 
@@ -187,30 +184,9 @@ module _ (head : Head) (c : ℕ) (past : List Line) (g : Grown head past) where
 
 -- ---- the file that a stat which stands calm goes on for
 
--- what a stat goes on with
-abbrev IsOn : Stage → Work → Type 0
-IsOn stage w = (stage ≡ Enqueued w) ⊎ ((lock : Lock) × (stage ≡ CameLock w lock))
-
-one_work : (stage : Stage) (v w : Work) → IsOn stage v → IsOn stage w → v ≡ w
-one_work stage v w (inl a) (inl b) = let e : Enqueued v ≡ Enqueued w = sym a ∙ b in cc
-one_work stage v w (inl a) (inr b) = let e : Enqueued v ≡ CameLock w b.0 = sym a ∙ b.1 in absurd (cc)
-one_work stage v w (inr a) (inl b) = let e : CameLock v a.0 ≡ Enqueued w = sym a.1 ∙ b in absurd (cc)
-one_work stage v w (inr a) (inr b) = let e : CameLock v a.0 ≡ CameLock w b.0 = sym a.1 ∙ b.1 in cc
-
-not_on : (stage other : Stage) (w : Work) → stage ≡ other → (IsOn other w → ⊥) → IsOn stage w → ⊥
-not_on stage other w e none on = none (subst (λ (v : Stage). IsOn v w) e on)
-
-plain_off : (w : Work) → IsOn Plain w → ⊥
-plain_off w (inl e) = absurd (cc)
-plain_off w (inr e) = let f = e.1 in absurd (cc)
-
-bad_off : (w : Work) → IsOn Bad w → ⊥
-bad_off w (inl e) = absurd (cc)
-bad_off w (inr e) = let f = e.1 in absurd (cc)
-
-sizes_off : (v w : Work) → IsOn (Sizes v) w → ⊥
-sizes_off v w (inl e) = absurd (cc)
-sizes_off v w (inr e) = let f = e.1 in absurd (cc)
+abbrev IsNoStat : Call → Type 0
+IsNoStat (call.Stat path) = ⊥
+IsNoStat _ = Unit {0}
 
 -- a file that is known as it was told
 told_some : (n : Notes) (path : List (List ℕ)) (fid : Fid) (layout : Raid0) → FileKnown n path fid layout → SomeFile n path fid layout
@@ -232,15 +208,18 @@ told_some n path fid layout k = (
   },
 )
 
+no_stat : (path : List (List ℕ)) (k : Call) → k ≡ call.Stat path → IsNoStat k → ⊥
+no_stat path k e other = subst IsNoStat e other
+
 module _ (head : Head) (c slot : ℕ) where
   -- of the call that stands calm in the slot
   abbrev Going : List Line → Type 0
   Going past = (x : ℕ × Call) → In x (calm (who_is c (printed past)) (printed past)) → x.0 ≡ slot → (r : Running) → call_at c slot past ≡ Some r → (path : List (List ℕ)) → r.call ≡ call.Stat path
-      → (w : Work) → IsOn r.stage w → SomeFile (bare_at c past) path w.fid w.layout
+      → (w : Work) → AtWork r.stage w → SomeFile (bare_at c past) path w.fid w.layout
 
   -- what it tells, or goes on for
-  stat_of : (past : List Line) (at : At) → BareGrown head past → at.node ≡ Client c → Going past → (x : ℕ × Call) → In x (calm (who_is c (printed past)) (printed past)) → x.0 ≡ slot → (r : Running) → call_at c slot past ≡ Some r
-      → (pins : List LockName) → (s : BareStatOf past at c r pins) → SomeFile (bare_at c past) s.path s.fid s.layout
+  stat_of : (past : List Line) (at : At) → Grown head past → at.node ≡ Client c → Going past → (x : ℕ × Call) → In x (calm (who_is c (printed past)) (printed past)) → x.0 ≡ slot → (r : Running) → call_at c slot past ≡ Some r
+      → (pins : List LockName) → (s : StatOf past at c r pins) → SomeFile (bare_at c past) s.path s.fid s.layout
   stat_of past at g own before x i is r there pins s = by s.from
     where
       N : Notes
@@ -249,126 +228,129 @@ module _ (head : Head) (c slot : ℕ) where
       grows : Grows (notes_at c past) (bare_at c past)
       grows = grows_to_bare (facts_at c past) (held_at c past)
 
-      by : KnowsFile past at c r pins s.fid s.mode s.links s.layout ⊎ (ToldFile past at c r pins s.path s.fid s.mode s.links s.layout ⊎ BareGoesOn r pins s.fid s.mode s.links s.layout) → SomeFile (bare_at c past) s.path s.fid s.layout
+      by : KnowsFile past at c r pins s.fid s.mode s.links s.layout ⊎ (ToldFile past at c r pins s.path s.fid s.mode s.links s.layout ⊎ GoesOn r pins s.fid s.mode s.links s.layout) → SomeFile (bare_at c past) s.path s.fid s.layout
       by (inl k) =
           let known : file_known N (found_at_path N s.path) ≡ Some k.file = ap (known_file N) (sym s.stats) ∙ k.known in
           subst (λ (v : Fid). SomeFile (bare_at c past) s.path v s.layout) (sym k.of_fid)
           (subst (λ (v : Raid0). SomeFile (bare_at c past) s.path k.file.fid v) (sym k.of_layout)
           (some_more N (bare_at c past) grows s.path k.file.fid k.file.layout
           (k.file.mode, k.file.links, file_more (UsedBy N k.file.cookies) (Usable N) (λ f u. u.0) s.path k.file.fid k.file.mode k.file.links k.file.layout (file_used N s.path k.file known))))
-      by (inr (inl k)) = some_more N (bare_at c past) grows s.path s.fid s.layout (told_some N s.path s.fid s.layout (told_file head past at c slot r pins s.path s.fid s.mode s.links s.layout (wide head past g) own there s.stats k))
+      by (inr (inl k)) = some_more N (bare_at c past) grows s.path s.fid s.layout (told_some N s.path s.fid s.layout (told_file head past at c slot r pins s.path s.fid s.mode s.links s.layout g own there s.stats k))
       by (inr (inr k)) =
           subst (λ (v : Fid). SomeFile (bare_at c past) s.path v s.layout) (sym k.of_fid)
           (subst (λ (v : Raid0). SomeFile (bare_at c past) s.path k.work.fid v) (sym k.of_layout) (before x i is r there s.path s.stats k.work k.stage))
 
-  going : (past : List Line) → BareGrown head past → Going past
+  going : (past : List Line) → Grown head past → Going past
   going [] g x i is r there path stats w on = absurd i
-  going (l ∷ past) g x i is r there path stats w on = by (λ y j e q h p k v o. going past g.1 y j e q h p k v o) (bare_cases head past l.at.stamp l.at.node l.entry g.0 c slot r there)
+  going (l ∷ past) g x i is r there path stats w on = by (λ y j e q h p k v o. going past g.1 y j e q h p k v o) (call_cases past l.at.stamp l.at.node l.entry g.0.ok c slot r there)
     where
       -- what was known before the line
       carry : (q : Running) → call_at c slot past ≡ Some q → (In x (calm (who_is c (printed past)) (printed past)) → SomeFile (bare_at c past) path w.fid w.layout) → SomeFile (bare_at c (l ∷ past)) path w.fid w.layout
       carry q e k =
-          some_more (bare_at c past) (bare_at c (l ∷ past)) (notes_grow c past l.at.stamp l.at.node l.entry g.0.ok (calm_stays head c l past (wide head (l ∷ past) g) x i)) path w.fid w.layout
-          (k (calm_before head c slot q l past (wide head (l ∷ past) g) e x is i))
+          some_more (bare_at c past) (bare_at c (l ∷ past)) (notes_grow c past l.at.stamp l.at.node l.entry g.0.ok (calm_stays head c l past g x i)) path w.fid w.layout
+          (k (calm_before head c slot q l past g e x is i))
 
       began : Begins c past r → ⊥
-      began (inl b) = not_on r.stage Plain w b.1 (plain_off w) on
-      began (inr b) = not_on r.stage Bad w b.1 (bad_off w) on
+      began (inl b) = let q : None ≡ Some w = sym (ap work_in b.1) ∙ on in cc
+      began (inr b) = let q : None ≡ Some w = sym (ap work_in b.1) ∙ on in cc
 
-      stood : Going past → (s : BareStood past (turn l.at.stamp l.at.node) c slot r) → l.at.node ≡ Client c → SomeFile (bare_at c (l ∷ past)) path w.fid w.layout
-      stood before s own = how s.stands.how
+      stood : Going past → (s : Stood past (turn l.at.stamp l.at.node) c slot r) → SomeFile (bare_at c (l ∷ past)) path w.fid w.layout
+      stood before s = how s.stands.how
         where
-          ok : BareStandsOk past (turn l.at.stamp l.at.node) c slot r
+          ok : StandsOk past (turn l.at.stamp l.at.node) c slot r
           ok = s.stands
 
           stats_so : ok.running.call ≡ call.Stat path
           stats_so = ap (λ (v : Running). v.call) (sym ok.is) ∙ stats
 
-          on_so : IsOn ok.stage w
-          on_so = subst (λ (v : Stage). IsOn v w) (ap (λ (v : Running). v.stage) ok.is) on
+          on_so : AtWork ok.stage w
+          on_so = ap work_in (ap (λ (v : Running). v.stage) (sym ok.is)) ∙ on
 
-          how : BareSizesStand past (turn l.at.stamp l.at.node) ok.running ok.stage ok.pins ⊎ (BareLockStand past c ok.running ok.stage ⊎ BareStatStand past (turn l.at.stamp l.at.node) c ok.running ok.stage ok.pins)
+          no_change : {v : Work} → ChangesOn ok.running v → ⊥
+          no_change (inl d) = no_stat path ok.running.call stats_so (subst IsNoStat (sym d.writes) tt)
+          no_change (inr d) = no_stat path ok.running.call stats_so (subst IsNoStat (sym d.cuts) tt)
+
+          how : SizesStand past (turn l.at.stamp l.at.node) ok.running ok.stage ok.pins ⊎ LockStand past c ok.running ok.stage ⊎ StatStand past (turn l.at.stamp l.at.node) c ok.running ok.stage ok.pins ⊎ GetStand past c ok.running ok.stage ok.pins
+              ⊎ FlushStand past c ok.running ok.stage ok.pins ⊎ ((ok.pins ≡ ok.running.pins) × MovedStand past (turn l.at.stamp l.at.node) c ok.running ok.stage)
               → SomeFile (bare_at c (l ∷ past)) path w.fid w.layout
-          how (inl k) = absurd (not_on ok.stage (Sizes k.work) w k.is (sizes_off k.work w) on_so)
-          how (inr (inl k)) = let both : call.Stat path ≡ call.Read k.read.handle k.read.offset k.read.count = sym stats_so ∙ k.read.reads in absurd (cc)
-          how (inr (inr k)) =
-              let same : k.work ≡ w = one_work ok.stage k.work w (stands k.is) on_so in
+          how (inl k) = absurd (no_stat path ok.running.call stats_so (subst IsNoStat (sym k.has.glimpses) tt))
+          how (inr (inl k)) = absurd (⊎_elim (λ (d : ReadsOn ok.running k.work). no_stat path ok.running.call stats_so (subst IsNoStat (sym d.read.reads) tt)) (λ (d : ChangesOn ok.running k.work). no_change d) k.does)
+          how (inr (inr (inl k))) =
+              let same : k.work ≡ w = one_work ok.stage k.work w (ap work_in k.is) on_so in
               let one : k.stat.path ≡ path = one_path k.stat.path path (sym k.stat.stats ∙ stats_so) in
               carry ok.running ok.call
               (λ j. subst (λ (v : Work). SomeFile (bare_at c past) path v.fid v.layout) same
               (subst (λ (v : Fid). SomeFile (bare_at c past) path v k.work.layout) (sym k.of_fid)
               (subst (λ (v : Raid0). SomeFile (bare_at c past) path k.stat.fid v) (sym k.of_layout)
               (subst (λ (v : List (List ℕ)). SomeFile (bare_at c past) v k.stat.fid k.stat.layout) one
-              (stat_of past (turn l.at.stamp l.at.node) g.1 own before x j is ok.running ok.call ok.pins k.stat)))))
-            where
-              stands : ((ok.stage ≡ Enqueued k.work) × LacksOf past c (wants_of k.stat.layout k.stat.fid (Stats k.stat.mode k.stat.links)) k.work)
-                  ⊎ ((lock : Lock) × (ok.stage ≡ CameLock k.work lock) × ((from : ℕ) × (reply : ReplyTo) × (ok.running.asking ≡ Answered from reply))) → IsOn ok.stage k.work
-              stands (inl q) = inl q.0
-              stands (inr q) = inr (q.0, q.1)
+              (stat_of past (turn l.at.stamp l.at.node) g.1 s.own before x j is ok.running ok.call ok.pins k.stat)))))
+          how (inr (inr (inr (inl k)))) = absurd (no_stat path ok.running.call stats_so (subst IsNoStat (sym k.does.read.reads) tt))
+          how (inr (inr (inr (inr (inl k))))) = absurd (no_stat path ok.running.call stats_so (subst IsNoStat (sym k.flushes) tt))
+          how (inr (inr (inr (inr (inr k))))) =
+              carry ok.running ok.call (λ j. before x j is ok.running ok.call path stats_so w (sym (moved_work past (turn l.at.stamp l.at.node) c ok.running ok.stage k.1) ∙ on_so))
 
-      by : Going past → BareCame past (turn l.at.stamp l.at.node) l.at.node l.entry c slot r → SomeFile (bare_at c (l ∷ past)) path w.fid w.layout
+      by : Going past → Came past (turn l.at.stamp l.at.node) l.at.node l.entry c slot r → SomeFile (bare_at c (l ∷ past)) path w.fid w.layout
       by before (inl e) = carry r e (λ j. before x j is r e path stats w on)
       by before (inr (inl b)) = absurd (began b.begins)
-      by before (inr (inr (inl t))) = carry t.before t.call (λ j. before x j is t.before t.call path (t.same ∙ stats) w (subst (λ (v : Stage). IsOn v w) (sym t.stage) on))
-      by before (inr (inr (inr s))) = stood before s s.own
+      by before (inr (inr (inl t))) = carry t.before t.call (λ j. before x j is t.before t.call path (t.same ∙ stats) w (ap work_in t.stage ∙ on))
+      by before (inr (inr (inr s))) = stood before s
 
 -- a stat that is told calm is known
-pub stat_told : (head : Head) (c slot : ℕ) (past : List Line) (at named : At) (given : Answer) (work : Option Work) → BareGrown head past → at.node ≡ Client c → (ok : BareStatToldOk past at c slot named given work)
-    → (x : ℕ × Call) → In x (calm (who_is c (printed past)) (printed past)) → x.0 ≡ slot → StatKnown (bare_at c past) (Locked c past) ok.running.call
-stat_told head c slot past at named given work g own ok x i is =
-    subst (StatKnown (bare_at c past) (Locked c past)) (sym ok.stat.stats)
+pub stat_told : (head : Head) (c slot : ℕ) (past : List Line) (at named : At) (given : Answer) (work : Option Work) → Grown head past → at.node ≡ Client c → (ok : StatToldOk past at c slot named given work)
+    → (x : ℕ × Call) → In x (calm (who_is c (printed past)) (printed past)) → x.0 ≡ slot → (L : Use → Type 0) → ((w : Use) → In w (wants_rest ok.stat.layout ok.stat.fid 0 (stripes ok.stat.layout)) → L w)
+    → StatKnown (bare_at c past) L ok.running.call
+stat_told head c slot past at named given work g own ok x i is L locked =
+    subst (StatKnown (bare_at c past) L) (sym ok.stat.stats)
     (record {
       fid = ok.stat.fid;
       layout = ok.stat.layout;
       file = stat_of head c slot past at g own (going head c slot past g) x i is ok.running ok.call ok.pins ok.stat;
-      locked = λ wanted j. calm_locked head c slot wanted past g x i is (ok.locked wanted j);
+      locked = locked;
     })
 
 -- ---- one that is known as it begins, while none of those locks is marked, asks for nothing
 
-module _ (head : Head) (c : ℕ) (past : List Line) (g : BareGrown head past) where
-  pub stat_asks_none : (k : Call) → StatKnown (notes_at c past) (Free head c past) k → known_file (notes_at c past) k ≡ None → ⊥
-  stat_asks_none (call.Stat path) k none = file_there head c past (wide head past g) path k.fid k.layout k.file none
-  stat_asks_none k h none = h
+module _ (head : Head) (c : ℕ) (past : List Line) (g : Grown head past) where
+  pub stat_asks_none : (L : Use → Type 0) (k : Call) → StatKnown (notes_at c past) L k → known_file (notes_at c past) k ≡ None → ⊥
+  stat_asks_none L (call.Stat path) k none = file_there head c past g path k.fid k.layout k.file none
+  stat_asks_none L k h none = h
 
   -- nor does it wait for a lock
-  pub stat_waits_none : (at : At) (r : Running) (stage : Stage) (pins : List LockName) → r.stage ≡ Plain → r.asking ≡ Unasked → KnownBy (notes_at c past) (files_at c past) (Free head c past) r.call
-      → BareStatStand past at c r stage pins → ⊥
-  stat_waits_none at r stage pins plain new known k = by k.stat.from
+  pub stat_waits_none : (at : At) (r : Running) (stage : Stage) (pins : List LockName) (R : Call → Type 0) (L : Use → Type 0) → ((w : Use) → ToRead w → L w → serving w (held_at c past) ≡ None → ⊥) → r.stage ≡ Plain → r.asking ≡ Unasked
+      → KnownBy (notes_at c past) R L r.call → StatStand past at c r stage pins → ⊥
+  stat_waits_none at r stage pins R L serves plain new known k = by k.stat.from
     where
       N : Notes
       N = notes_at c past
 
-      S : BareStatOf past at c r pins
+      S : StatOf past at c r pins
       S = k.stat
 
-      of_stat : KnownBy N (files_at c past) (Free head c past) (call.Stat S.path)
-      of_stat = subst (KnownBy N (files_at c past) (Free head c past)) S.stats known
+      of_stat : KnownBy N R L (call.Stat S.path)
+      of_stat = subst (KnownBy N R L) S.stats known
 
       came : (from : ℕ) (reply : ReplyTo) → r.asking ≡ Answered from reply → ⊥
       came from reply e = let both : Unasked ≡ Answered from reply = sym new ∙ e in cc
 
       begun : (file : KnownFile) → file_known N (found_at_path N S.path) ≡ Some file → S.fid ≡ file.fid → S.layout ≡ file.layout → ⊥
       begun file e fid layout = ⊎_elim
-          (λ (h : IsKnown N (call.Stat S.path) × ReadKnown (files_at c past) (Free head c past) (call.Stat S.path)). directory_alone head c past (wide head past g) S.path file h.0 e)
-          (λ (h : StatBy N (Free head c past) S.path). waits h)
+          (λ (h : IsKnown N (call.Stat S.path) × R (call.Stat S.path)). directory_alone head c past g S.path file h.0 e)
+          (λ (h : StatBy N L S.path). waits h)
           of_stat
         where
-          waits : (h : StatBy N (Free head c past) S.path) → ⊥
-          waits h = ⊎_elim
-              (λ (q : (stage ≡ Enqueued k.work) × LacksOf past c (wants_of S.layout S.fid (Stats S.mode S.links)) k.work). lacks q.1)
-              (λ (q : (lock : Lock) × (stage ≡ CameLock k.work lock) × ((from : ℕ) × (reply : ReplyTo) × (r.asking ≡ Answered from reply))). came q.2.0 q.2.1 q.2.2)
-              k.is
-            where
-              lacks : LacksOf past c (wants_of S.layout S.fid (Stats S.mode S.links)) k.work → ⊥
-              lacks q =
-                  let one = file_one head c past (wide head past g) S.path h.fid h.layout file h.file e in
-                  let among : In q.wanted (wants_rest h.layout h.fid 0 (stripes h.layout)) =
-                  subst (λ (v : Fid). In q.wanted (wants_rest h.layout v 0 (stripes h.layout))) (fid ∙ sym one.0)
-                  (subst (λ (v : Raid0). In q.wanted (wants_rest v S.fid 0 (stripes v))) (layout ∙ sym one.1) (lacks_in past c (wants_of S.layout S.fid (Stats S.mode S.links)) k.work q)) in
-                  free_serves head c past q.wanted q.wanted g (h.locked q.wanted among) (rest_with h.layout h.fid 0 (stripes h.layout) q.wanted among).0 refl refl q.lacks
+          waits : (h : StatBy N L S.path) → ⊥
+          waits h =
+              let q = k.lacks in
+              let one = file_one head c past g S.path h.fid h.layout file h.file e in
+              let wanted : In q.wanted (wants_rest k.work.layout k.work.fid 0 (stripes k.work.layout)) =
+              subst (λ (v : Kind). In q.wanted (wants_of k.work.layout k.work.fid v)) k.kind (lacks_in past c (wanted_by k.work) k.work q)
+              in
+              let among : In q.wanted (wants_rest h.layout h.fid 0 (stripes h.layout)) =
+              subst (λ (v : Fid). In q.wanted (wants_rest h.layout v 0 (stripes h.layout))) (k.of_fid ∙ fid ∙ sym one.0)
+              (subst (λ (v : Raid0). In q.wanted (wants_rest v k.work.fid 0 (stripes v))) (k.of_layout ∙ layout ∙ sym one.1) wanted) in
+              serves q.wanted (rest_with h.layout h.fid 0 (stripes h.layout) q.wanted among).0 (h.locked q.wanted among) q.lacks
 
-      by : KnowsFile past at c r pins S.fid S.mode S.links S.layout ⊎ (ToldFile past at c r pins S.path S.fid S.mode S.links S.layout ⊎ BareGoesOn r pins S.fid S.mode S.links S.layout) → ⊥
+      by : KnowsFile past at c r pins S.fid S.mode S.links S.layout ⊎ (ToldFile past at c r pins S.path S.fid S.mode S.links S.layout ⊎ GoesOn r pins S.fid S.mode S.links S.layout) → ⊥
       by (inl q) = begun q.file (ap (known_file N) (sym S.stats) ∙ q.known) q.of_fid q.of_layout
       by (inr (inl q)) = came q.target q.reply q.answered
-      by (inr (inr q)) = not_on r.stage Plain q.work plain (plain_off q.work) q.stage
+      by (inr (inr q)) = let n : None ≡ Some q.work = sym (ap work_in plain) ∙ q.stage in absurd (cc)

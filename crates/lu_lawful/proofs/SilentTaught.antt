@@ -35,14 +35,14 @@ use Rattle.lu_covered.specs.Deeds.{asked}
 use Rattle.lu_covered.specs.Heads.{Head}
 use Rattle.lu_laws.specs.Words.Lives.{who_is}
 use Rattle.lu_laws.specs.Words.Repeats.{calm}
-use Rattle.lu_guards.proofs.Guards.{In, IsToldAsIs, HeardNow, Learned, ToldOk}
+use Rattle.lu_guards.proofs.Guards.{In, IsToldAsIs, HeardNow, Learned, ToldOk, EntryOk}
+use Rattle.lu_guards.proofs.Grown.{Allowed, Grown}
 use Rattle.lu_guards.proofs.Only.{grown_of}
 use Rattle.lu_guards.proofs.Lists.{self, in_left}
 use Rattle.lu_guards.proofs.Parts.{life_is_of, flights_is}
 use Rattle.lu_guards.proofs.Endings.{reply_ends_none}
 use Rattle.lu_facts.proofs.Groups.{turn, CallOf}
 use Rattle.lu_facts.proofs.All.{holds}
-use Rattle.lu_facts.proofs.BareGuards.{BareOk, BareAllowed, BareGrown, wide}
 use Rattle.lu_facts.proofs.TaughtKnown.{Agrees, AllUsable, Comes, taught_under}
 use Rattle.lu_facts.proofs.Comes.{NoRefusal, acted_comes}
 use Rattle.lu_facts.proofs.HeldThere.{brought_new}
@@ -91,10 +91,10 @@ asks_serves o (Some s) slot asking v h =
     (λ t. h)
 
 module _ (head : Head) (c slot : ℕ) where
-  serves_still : (past : List Line) (l : Line) (o : Op) → BareGrown head (l ∷ past) → NotTold l.entry → Serves c slot past o → Serves c slot (l ∷ past) o
+  serves_still : (past : List Line) (l : Line) (o : Op) → Grown head (l ∷ past) → NotTold l.entry → Serves c slot past o → Serves c slot (l ∷ past) o
   serves_still past l o g = by l.at.node l.entry g.0.ok
     where
-      by : (node : Node) (e : Entry) → BareOk past (turn l.at.stamp node) node e → NotTold e → Serves c slot past o → Serves c slot (line (turn l.at.stamp node) e ∷ past) o
+      by : (node : Node) (e : Entry) → EntryOk past (turn l.at.stamp node) node e → NotTold e → Serves c slot past o → Serves c slot (line (turn l.at.stamp node) e ∷ past) o
       by (Client d) (Begin s running) ok nt h =
           cond_both (nat_eq c d) (if nat_eq s slot then Some running else call_at c slot past) (call_at c slot past) (ServedBy o)
           (λ t. cond_both (nat_eq s slot) (Some running) (call_at c slot past) (ServedBy o)
@@ -131,17 +131,17 @@ module _ (head : Head) (c slot : ℕ) where
     client_is : (d : ℕ) (here : At) → here.node ≡ Client d → here ≡ at → c ≡ d
     client_is d here is e = let same : Client c ≡ Client d = sym own ∙ ap (λ (v : At). v.node) (sym e) ∙ is in cc
 
-    heard_serves : (past : List Line) (stamp : Stamp) (d u : ℕ) (g : Flight) (k : ReplyTo) → u ≡ 0 → BareAllowed head past (turn stamp (Client d)) (Heard u g k) → BareGrown head past → c ≡ d → g ≡ f
+    heard_serves : (past : List Line) (stamp : Stamp) (d u : ℕ) (g : Flight) (k : ReplyTo) → u ≡ 0 → Allowed head past (turn stamp (Client d)) (Heard u g k) → Grown head past → c ≡ d → g ≡ f
         → Serves c slot (line (turn stamp (Client d)) (Heard u g k) ∷ past) f.op
     heard_serves past stamp d u g k first a grown same is =
         let ok = a.of u (self u) in
         let flying : In g (flights_of (life_at d past) (only u past)) = subst (λ (v : Who). In g (flights_of v (only u past))) (sym (life_is_of d u past)) ok.flying in
-        let flies : In g (flights_at d u past) = subst (λ (v : List Flight). In g v) (sym (flights_is head d u past (wide head past grown))) flying in
-        let call = (holds head past (wide head past grown)).asks.fly_calls d u g (reply_ends_none head past (turn stamp (Client d)) (Target u) k d (wide head past grown) a.ok.1) flies in
+        let flies : In g (flights_at d u past) = subst (λ (v : List Flight). In g v) (sym (flights_is head d u past grown)) flying in
+        let call = (holds head past grown).asks.fly_calls d u g (reply_ends_none head past (turn stamp (Client d)) (Target u) k d grown a.ok.1) flies in
         let of_slot : CallOf past d 0 (Some slot) f.op =
         subst (λ (v : ℕ). CallOf past d v (Some slot) f.op) first (subst (λ (v : Flight). CallOf past d u (Some slot) v.op) is (subst (λ (v : Option ℕ). CallOf past d u v g.op) (ap (λ (v : Flight). v.slot) is ∙ serves) call))
         in
-        let on_names : IsNames f.op = asked_names f.op (subst (λ (v : ℕ). IsAskedOf v f.op) first (subst (λ (v : Flight). IsAskedOf u v.op) is (flights_asked head d u past (wide head past grown) g flies))) in
+        let on_names : IsNames f.op = asked_names f.op (subst (λ (v : ℕ). IsAskedOf v f.op) first (subst (λ (v : Flight). IsAskedOf u v.op) is (flights_asked head d u past grown g flies))) in
         cond_both (nat_eq c d) (asks_for g.slot slot (Answered u k) (call_at c slot past)) (call_at c slot past) (ServedBy f.op)
         (λ t. asks_serves f.op g.slot slot (Answered u k) (call_at c slot past) (served on_names of_slot))
         (λ t. served on_names of_slot)
@@ -150,11 +150,11 @@ module _ (head : Head) (c slot : ℕ) where
         served on_names x = subst (λ (v : ℕ). Serves v slot past f.op) (sym same) (x.0, (x.1, names_errand x.0 f.op on_names x.3))
 
     -- heard, and then nothing but locks shown
-    heard_now : (past : List Line) → BareGrown head past → HeardNow past at 0 f r → Serves c slot past f.op × AllHeld past
+    heard_now : (past : List Line) → Grown head past → HeardNow past at 0 f r → Serves c slot past f.op × AllHeld past
     heard_now [] grown h = absurd h
     heard_now (l ∷ past) grown h = by l.at.node l.entry grown.0 h (heard_now past grown.1)
       where
-        by : (node : Node) (e : Entry) → BareAllowed head past (turn l.at.stamp node) e → HeardNow (line (turn l.at.stamp node) e ∷ past) at 0 f r → (HeardNow past at 0 f r → Serves c slot past f.op × AllHeld past)
+        by : (node : Node) (e : Entry) → Allowed head past (turn l.at.stamp node) e → HeardNow (line (turn l.at.stamp node) e ∷ past) at 0 f r → (HeardNow past at 0 f r → Serves c slot past f.op × AllHeld past)
             → Serves c slot (line (turn l.at.stamp node) e ∷ past) f.op × AllHeld (line (turn l.at.stamp node) e ∷ past)
         by (Client d) (Heard u g k) a h ih =
             let same = client_is d (turn l.at.stamp (Client d)) refl h.0 in (
@@ -165,7 +165,7 @@ module _ (head : Head) (c slot : ℕ) where
             )
         by (Client d) (Hold u x marked size seen) a h ih =
             let past_h = ih h in
-            (past_h.0, λ y i. held_stays c past l.at.stamp 0 y.cookie.0 (Client d) (Hold u x marked size seen) a.ok (refl, tt) (past_h.1 y i))
+            (past_h.0, λ y i. held_stays c past l.at.stamp y.cookie.0 (Client d) (Hold u x marked size seen) a.ok (refl, tt) (past_h.1 y i))
         by (Target u) (Heard v g k) a h ih = absurd a.ok
         by (Target u) (Hold v x marked size seen) a h ih = absurd a.ok
         by _ _ a h ih = absurd h
@@ -184,19 +184,19 @@ module _ (head : Head) (c slot : ℕ) where
     abbrev Knows : List Line → Type 0
     Knows past = AllUsable (bare_at c past) (taught f.op r.answer r.locks)
 
-    learned_still : (l : Line) (past : List Line) → BareGrown head (l ∷ past) → NotTold l.entry → Serves c slot past f.op × (IsCalm past → Knows past) → Serves c slot (l ∷ past) f.op × (IsCalm (l ∷ past) → Knows (l ∷ past))
+    learned_still : (l : Line) (past : List Line) → Grown head (l ∷ past) → NotTold l.entry → Serves c slot past f.op × (IsCalm past → Knows past) → Serves c slot (l ∷ past) f.op × (IsCalm (l ∷ past) → Knows (l ∷ past))
     learned_still l past grown nt h = (
       serves_still past l f.op grown nt h.0,
       λ calm_now x i.
-          let before = calm_before head c slot h.0.0 l past (wide head (l ∷ past) grown) h.0.1.0 calm_now.0 calm_now.1.1 calm_now.1.0 in
-          notes_grow c past l.at.stamp l.at.node l.entry grown.0.ok (calm_stays head c l past (wide head (l ∷ past) grown) calm_now.0 calm_now.1.0) x (h.1 (calm_now.0, (before, calm_now.1.1)) x i),
+          let before = calm_before head c slot h.0.0 l past grown h.0.1.0 calm_now.0 calm_now.1.1 calm_now.1.0 in
+          notes_grow c past l.at.stamp l.at.node l.entry grown.0.ok (calm_stays head c l past grown calm_now.0 calm_now.1.0) x (h.1 (calm_now.0, (before, calm_now.1.1)) x i),
     )
 
-    learned_now : (past : List Line) → BareGrown head past → Learned past at 0 f r → Serves c slot past f.op × (IsCalm past → Knows past)
+    learned_now : (past : List Line) → Grown head past → Learned past at 0 f r → Serves c slot past f.op × (IsCalm past → Knows past)
     learned_now [] grown h = absurd h
     learned_now (l ∷ past) grown h = by l.at.node l.entry grown h (learned_now past grown.1)
       where
-        by : (node : Node) (e : Entry) → BareGrown head (line (turn l.at.stamp node) e ∷ past) → Learned (line (turn l.at.stamp node) e ∷ past) at 0 f r → (Learned past at 0 f r → Serves c slot past f.op × (IsCalm past → Knows past))
+        by : (node : Node) (e : Entry) → Grown head (line (turn l.at.stamp node) e ∷ past) → Learned (line (turn l.at.stamp node) e ∷ past) at 0 f r → (Learned past at 0 f r → Serves c slot past f.op × (IsCalm past → Knows past))
             → Serves c slot (line (turn l.at.stamp node) e ∷ past) f.op × (IsCalm (line (turn l.at.stamp node) e ∷ past) → Knows (line (turn l.at.stamp node) e ∷ past))
         by (Client d) (Heard u g k) grown h ih =
             let same = client_is d (turn l.at.stamp (Client d)) refl h.0 in (
@@ -230,17 +230,17 @@ refused_as : (k : Call) (e : Errno) → told_as k (told.Refused e) ≡ told.Refu
 refused_as (call.Open h path) e = refl
 refused_as _ e = refl
 
-pub told_is_known : (head : Head) (c slot : ℕ) (past : List Line) (at : At) (named : At) (given : Answer) (work : Option Work) → BareGrown head past → Agrees (bare_at c past) → at.node ≡ Client c
+pub told_is_known : (head : Head) (c slot : ℕ) (past : List Line) (at : At) (named : At) (given : Answer) (work : Option Work) → Grown head past → Agrees (bare_at c past) → at.node ≡ Client c
     → (ok : ToldOk past at c slot named given work) → NoRefusal given
     → (x : ℕ × Call) → In x (calm (who_is c (printed past)) (printed past)) → x.0 ≡ slot → IsKnown (bare_at c past) ok.running.call
 told_is_known head c slot past at named given work g agrees own ok fine x i is =
-    let replied = (holds head past (wide head past g)).replies c slot ok.target ok.running ok.reply ok.call ok.answered in
+    let replied = (holds head past g).replies c slot ok.target ok.running ok.reply ok.call ok.answered in
     let first = plain_first ok.running ok.target replied.deed.op replied.op ok.good in
     let learned = learned_now head c slot at own ok.flight ok.reply ok.serves past g (subst (λ (t : ℕ). Learned past at t ok.flight ok.reply) first.0 ok.learned) in
     let same : learned.0.0 ≡ ok.running = some_is learned.0.0 ok.running (sym learned.0.1.0 ∙ ok.call) in
     let asked : becomes ok.running ≡ Some ok.flight.op = ap becomes (sym same) ∙ learned.0.1.1 in
     let asked_for : replied.deed.op ≡ ok.flight.op = one_op replied.deed.op ok.flight.op (becomes ok.running) first.1 asked in
-    let comes = acted_comes head (only ok.target past) replied.deed (grown_of head ok.target past (wide head past g)) replied.acted in
+    let comes = acted_comes head (only ok.target past) replied.deed (grown_of head ok.target past g) replied.acted in
     let answered : replied.deed.reply.answer ≡ ok.reply.answer = ap (λ (v : ReplyTo). v.answer) replied.is in
     let locked : replied.deed.reply.locks ≡ ok.reply.locks = ap (λ (v : ReplyTo). v.locks) replied.is in
     let fine_reply : NoRefusal ok.reply.answer = λ e q. fine e (ok.of_answer ∙ ap (λ (v : Answer). told_as ok.running.call v) q ∙ refused_as ok.running.call e) in

@@ -1,4 +1,4 @@
--- The theorem: every run of the whole table whose lines are covered keeps six laws, and where it changes no bytes it is lawful.
+-- The theorem: every run of the whole table whose lines are covered is lawful.
 use Rattle.std.specs.Prelude.{List}
 use Rattle.lu_words.specs.Printed.{printed}
 use Rattle.lu_table.specs.Heads as table
@@ -12,11 +12,10 @@ use Rattle.lu_laws.specs.Laws.Acts.{ActsOf}
 use Rattle.lu_laws.specs.Laws.Glimpse.{Glimpse}
 use Rattle.lu_laws.specs.Laws.History.{HistoryOf}
 use Rattle.lu_laws.specs.Lawful.{Lawful}
-use Rattle.lu_lawful.specs.Everywhere.{OfEveryRun, OfAllThatFit, OfEveryBareRun}
+use Rattle.lu_lawful.specs.Everywhere.{OfEveryRun, OfAllThatFit}
 use Rattle.lu_lawful.specs.SixLaws.{SixLaws}
 use Rattle.lu_guards.proofs.Turns.{covered_head}
 use Rattle.lu_guards.proofs.Obey.{grown, noted, settled}
-use Rattle.lu_facts.proofs.Bare.{bare_grown}
 use Rattle.lu_guards.proofs.HeedRuns.{all_heed}
 use Rattle.lu_guards.proofs.SpeakRuns.{all_speak}
 use Rattle.lu_lawful.proofs.Agrees.{OfRun}
@@ -81,18 +80,16 @@ six head turns is run covered =
       glimpse = glimpse_law few past (record { ranges = known.ranges; grown = known.grown; pins = known.pins; heeds = known.heeds; speaks = known.speaks; shown = shown_run head turns run covered });
     }
 
--- ---- runs that change no bytes
-
-pub lawful : OfEveryBareRun (λ osts whole. Lawful osts whole)
-lawful head turns is run covered bare =
+pub lawful : OfEveryRun (λ osts whole. Lawful osts whole)
+lawful head turns is run covered =
     let past = lines_of turns in
     let few = covered_head head in
-    let g = bare_grown few past (grown head turns run covered) bare in
+    let known = of_run head turns is run covered in
     let laws = six head turns is run covered in
     record {
       messages = laws.messages;
       locks = laws.locks;
-      silent = silent_law few past g (settled head turns run covered);
+      silent = silent_law few past (record { ranges = known.ranges; grown = known.grown; pins = known.pins; heeds = known.heeds; speaks = known.speaks }) (settled head turns run covered);
       acts = laws.acts;
       recovery = laws.recovery;
       history = laws.history;

@@ -1,10 +1,10 @@
--- What holds of the printed trace of every run of the whole table whose lines are covered, and of every one of these that changes no bytes.
+-- What holds of the printed trace of every run of the whole table whose lines are covered.
 use Rattle.std.specs.Prelude.{ℕ, Bool, List}
 use Rattle.lu_base.specs.declared.ids.Who.{Who}
 use Rattle.lu_words.specs.Printed.{printed}
 use Rattle.lu_table.specs.Heads.{Head, IsHead}
 use Rattle.lu_table.specs.Runs.{Turn, lines_of, IsRun}
-use Rattle.lu_covered.specs.Covered.{AllCovered, AllBare}
+use Rattle.lu_covered.specs.Covered.{AllCovered}
 use Rattle.lu_laws.specs.Words.Pasts.{Past}
 use Rattle.lu_lawful.specs.Fits.{Fits}
 
@@ -17,9 +17,3 @@ abbrev pub OfAllThatFit : ((Who → Bool) → (ℕ → ℕ → Bool) → ℕ →
 OfAllThatFit P =
     (head : Head) (turns : List Turn) → IsHead head → IsRun head turns → AllCovered (lines_of turns)
     → (out : Who → Bool) (lost : ℕ → ℕ → Bool) → Fits head.osts out lost (lines_of turns) → P out lost head.osts (printed (lines_of turns))
-
--- ---- where no write and no cut begins
-
-abbrev pub OfEveryBareRun : (ℕ → Past → Type 0) → Type 0
-OfEveryBareRun P =
-    (head : Head) (turns : List Turn) → IsHead head → IsRun head turns → AllCovered (lines_of turns) → AllBare (lines_of turns) → P head.osts (printed (lines_of turns))

@@ -11,11 +11,10 @@ ghost use Rattle.lu_laws.specs.Laws.History.{History, HistoryOf};
 ghost use Rattle.lu_laws.specs.Laws.Glimpse.{Glimpse};
 ghost use Rattle.lu_laws.specs.Lawful.{Lawful};
 ghost use Rattle.lu_laws.specs.Orderly.{Orderly};
-ghost use Rattle.lu_lawful.specs.Everywhere.{OfEveryRun, OfAllThatFit, OfEveryBareRun};
+ghost use Rattle.lu_lawful.specs.Everywhere.{OfEveryRun, OfAllThatFit};
 ghost use Rattle.lu_lawful.specs.SixLaws.{SixLaws};
 
-/// Every run of the whole table whose lines are covered keeps six laws, all but that of silent repeats, and
-/// where it changes no bytes (no write and no cut begins on a good handle) its printed trace is lawful, by all seven:
+/// The printed trace of every run of the whole table whose lines are covered is lawful, by all seven laws:
 /// whatever bytes are read, written and cut, whatever the network loses, repeats or reorders, whoever waits for a lock, whoever is evicted and joins in a new life,
 /// and whichever targets crash, boot again, recover and close their recovery windows; for every number of clients, of
 /// object storage targets and of requests in flight, and every schedule.
@@ -26,13 +25,13 @@ ghost use Rattle.lu_lawful.specs.SixLaws.{SixLaws};
 pub fn covered_runs_are_lawful()
     ensures messages { OfEveryRun (λ osts whole. Holds Messages whole) }
     ensures locks { OfEveryRun (λ osts whole. Holds (Locks osts) whole) }
-    ensures silent { OfEveryBareRun (λ osts whole. Holds Silent whole) }
+    ensures silent { OfEveryRun (λ osts whole. Holds Silent whole) }
     ensures acts { OfEveryRun (λ osts whole. Holds (Acts whole) whole) }
     ensures recovery { OfEveryRun (λ osts whole. Holds (Recovery osts whole) whole) }
     ensures history { OfEveryRun (λ osts whole. Holds (History osts whole) whole) }
     ensures glimpse { OfEveryRun (λ osts whole. Holds (Glimpse osts whole) whole) }
     ensures six { OfEveryRun (λ osts whole. SixLaws osts whole) }
-    ensures lawful { OfEveryBareRun (λ osts whole. Lawful osts whole) }
+    ensures lawful { OfEveryRun (λ osts whole. Lawful osts whole) }
     ensures acts_of { OfAllThatFit (λ out lost osts whole. Holds (ActsOf out lost whole) whole) }
     ensures history_of { OfAllThatFit (λ out lost osts whole. Holds (HistoryOf out lost osts) whole) }
 {}

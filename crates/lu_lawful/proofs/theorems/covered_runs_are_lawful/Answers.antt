@@ -6,7 +6,7 @@ returns c =
     record {
       messages = λ head turns is run covered. (six head turns is run covered).messages;
       locks = λ head turns is run covered. (six head turns is run covered).locks;
-      silent = λ head turns is run covered bare. (lawful head turns is run covered bare).silent;
+      silent = λ head turns is run covered. (lawful head turns is run covered).silent;
       acts = λ head turns is run covered. (six head turns is run covered).acts;
       recovery = λ head turns is run covered. (six head turns is run covered).recovery;
       history = λ head turns is run covered. (six head turns is run covered).history;
