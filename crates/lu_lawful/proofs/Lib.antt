@@ -103,6 +103,8 @@ pub mod SilentReady
 pub mod SilentServed
 pub mod SilentStats
 pub mod SilentLaw
+pub mod SilentPromises
+pub mod SilentBegins
 pub mod LifeNumbers
 pub mod GlimpseCuts
 pub mod GlimpseLocks

@@ -1,8 +1,8 @@
 -- The law of silent repeats holds of the printed past of every grown one that is settled: each call whose answer is known, while its client holds no
 -- lock to write under, is known by facts under held locks, or is a read or a stat of a file of which all that it wants is known under such, so that
 -- it is told as it begins.
-use Rattle.std.proofs.Common.{◌≡◌, ℕ, ◌+◌, ◌-◌, ◌≤◌, Bool, true, false, List, [], ◌∷◌, ◌++◌, ◌⊎◌, Option, Some, None, inl, inr, ⊎_elim, refl, sym, subst, ap, ◌∙◌, arith}
-use Rattle.std.specs.Prelude.{nat_eq, not, ◌==◌, ◌&&◌, if◌then◌else◌, map, filter}
+use Rattle.std.proofs.Common.{◌≡◌, ℕ, ◌+◌, ◌-◌, ◌≤◌, Bool, true, false, List, [], ◌∷◌, ◌⊎◌, Option, Some, None, inl, inr, ⊎_elim, refl, sym, subst, ap, ◌∙◌, arith}
+use Rattle.std.specs.Prelude.{nat_eq, not, ◌&&◌, if◌then◌else◌, map}
 use Rattle.std.specs.List.{list_any}
 use Rattle.std.proofs.lemmas.Bool.{cond_both, cond-true, and_parts, eqb-true, not-true}
 use Rattle.lu_base.specs.declared.ids.At.{At}
@@ -11,504 +11,73 @@ use Rattle.lu_base.specs.declared.ids.Node.{Node}
 use Rattle.lu_base.specs.declared.ids.Node.TheVariants.{Client, Target}
 use Rattle.lu_base.specs.declared.ids.Stamp.{Stamp}
 use Rattle.lu_base.specs.declared.locks.Resource.{Resource}
-use Rattle.lu_base.specs.declared.ids.TargetId.{TargetId}
-use Rattle.lu_base.specs.declared.ids.Who.{Who}
 use Rattle.lu_base.specs.declared.locks.Lock.{Lock}
 use Rattle.lu_base.specs.declared.locks.Mode.TheVariants.{PW}
 use Rattle.lu_layout.specs.Raid0.{Raid0}
 use Rattle.lu_layout.specs.Sound.{IsLayout}
 use Rattle.lu_lock.specs.Growth.{the_end}
 use Rattle.lu_msg.specs.declared.answers.Answer.{Answer}
-use Rattle.lu_msg.specs.declared.answers.Answer.TheVariants as told
-use Rattle.lu_msg.specs.declared.answers.Errno.{Errno}
-use Rattle.lu_msg.specs.declared.answers.Errno.TheVariants.{EBADF, EIO}
 use Rattle.lu_msg.specs.declared.calls.Call.{Call}
 use Rattle.lu_msg.specs.declared.calls.Call.TheVariants as call
-use Rattle.lu_msg.specs.declared.messages.Message.TheVariants as message
 use Rattle.lu_msg.specs.declared.operations.Op.{Op}
-use Rattle.lu_held.specs.declared.locks.Change.{Change}
 use Rattle.lu_held.specs.declared.locks.Change.TheVariants as of_held
 use Rattle.lu_held.specs.declared.locks.HeldLock.{HeldLock}
 use Rattle.lu_held.specs.declared.locks.Use.{Use}
 use Rattle.lu_held.specs.declared.names.LockName.{LockName}
-use Rattle.lu_held.specs.Locks.{is_named, after}
 use Rattle.lu_held.specs.Held.{serving, changed, used}
 use Rattle.lu_trace.specs.declared.entries.Entry.TheVariants as entry
 use Rattle.lu_trace.specs.declared.entries.Line.{Line as PrintedLine}
 use Rattle.lu_trace.specs.WellFormed.{IsCall}
-use Rattle.lu_machine.specs.Footprint.{Every}
-use Rattle.lu_machine.specs.Name.{same_name}
 use Rattle.lu_machine.specs.Tree.{no_file}
-use Rattle.lu_machine.proofs.Keys.{name_tells}
 use Rattle.lu_words.specs.declared.changes.Flush.{Flush}
 use Rattle.lu_words.specs.declared.uses.Using.{Using}
-use Rattle.lu_words.specs.Carried.{Work, Queued, Running, HandleFile, Unasked, Kind, Narrow, Wide, Writes, Cuts, Stats, Glimpses, Stage, Plain, Bad, Looks, Enqueued, Came, Forgotten, Gets, Flushing, Sizes}
-use Rattle.lu_words.specs.Words.{Entry, Begin, Told, Take, Drop, Life, Queues, Stands, Pins, Unpins, Marks, WritesBack, Line, line, turn_before}
+use Rattle.lu_words.specs.Carried.{Work, Queued, Running, HandleFile, Unasked, Kind, Narrow, Wide, Stage, Plain, Bad, Looks, Enqueued, Came, Forgotten, Gets, Sizes}
+use Rattle.lu_words.specs.Words.{Entry, Begin, Told, Queues, Stands, Pins, Unpins, WritesBack, Line, line, turn_before}
 use Rattle.lu_words.specs.Sent.{count_sent}
 use Rattle.lu_words.specs.Printed.{printed_entry, printed}
 use Rattle.lu_client_rows.specs.Caches.{held_at}
 use Rattle.lu_client_rows.specs.Facts.{facts_at}
-use Rattle.lu_client_rows.specs.Known.{Notes}
 use Rattle.lu_client_rows.specs.Looks.{Page, missing, has_reached}
-use Rattle.lu_client_rows.specs.Recovery.{is_left_at}
-use Rattle.lu_client_rows.specs.States.{Store, store_at}
+use Rattle.lu_client_rows.specs.States.{store_at}
 use Rattle.lu_client_rows.specs.Stripes.{stripes}
 use Rattle.lu_client_rows.specs.Wants.{wants_of}
 use Rattle.lu_covered.specs.Calls.{call_at, operation_of, begun_file, file_at, file_for, life_at}
-use Rattle.lu_covered.specs.Heads.{Head, IsHead}
-use Rattle.lu_covered.specs.Known.{notes_at, known_answer}
+use Rattle.lu_covered.specs.Heads.{Head}
+use Rattle.lu_covered.specs.Known.{notes_at}
 use Rattle.lu_laws.specs.Holds.{Holds}
 use Rattle.lu_laws.specs.Laws.Silent.{is_told_silently, SilentAt, Silent}
-use Rattle.lu_laws.specs.Words.Calls.{call_in}
 use Rattle.lu_laws.specs.Words.Held.{held, has_write_lock}
-use Rattle.lu_laws.specs.Words.Lives.{life, who_is}
+use Rattle.lu_laws.specs.Words.Lives.{who_is}
 use Rattle.lu_laws.specs.Words.Pasts.{same_turn}
-use Rattle.lu_laws.specs.Words.Repeats.{same_path, same_reading, rebinds, is_error, calm, told_calm, known, is_repeat}
-use Rattle.lu_guards.proofs.Guards.{In, Later, Closes, Ending, Took, EntryOk, BeginOk, Begins, Starts, StartsRead, StartsStat, OfFlush, IsFlushing, OwesBegun, OwesStood, Owes, NamesAskOk, SizeAskOk, LockAskOk, GetAskOk, CallAsksOk, QueuesOk, WritesBackOk, ReadsOn, ChangesOn, UsesHeld, wanted_by, work_in, used_in, LacksOf, PinsSince, Narrowed, Wider, SizesStand, LeftSize, LockStand, StatStand, GetStand, FlushStand, LockBrought, LockGranted, Replied, MovedStand, StandsOk, TellsOk}
+use Rattle.lu_laws.specs.Words.Repeats.{same_reading, calm, known, is_repeat}
+use Rattle.lu_guards.proofs.Guards.{In, Later, Closes, Ending, EntryOk, BeginOk, Begins, Starts, StartsRead, OfFlush, IsFlushing, OwesBegun, Owes, NamesAskOk, SizeAskOk, LockAskOk, GetAskOk, CallAsksOk, QueuesOk, WritesBackOk, ReadsOn, ChangesOn, UsesHeld, wanted_by, work_in, used_in, LacksOf, Narrowed, Wider, SizesStand, LeftSize, LockStand, StatStand, GetStand, FlushStand, MovedStand, StandsOk}
 use Rattle.lu_guards.proofs.Grown.{Allowed, Grown}
 use Rattle.lu_guards.proofs.HeedMarks.{owed_of}
-use Rattle.lu_guards.proofs.Heeds.{AllHeed, none_owed}
-use Rattle.lu_guards.proofs.Lists.{self, in_filter, turn_irreflexive}
-use Rattle.lu_guards.proofs.PinsFit.{PinsFit}
-use Rattle.lu_guards.proofs.Speaks.{AllSpeak}
-use Rattle.lu_guards.proofs.Turns.{BeginQuiet, StoodQuiet, Settled}
+use Rattle.lu_guards.proofs.Heeds.{none_owed}
+use Rattle.lu_guards.proofs.Lists.{self, turn_irreflexive}
+use Rattle.lu_guards.proofs.Turns.{BeginQuiet, Settled}
 use Rattle.lu_guards.proofs.ClientLooks.{lacks_in}
-use Rattle.lu_guards.proofs.ClientLocks.{changed_only, used_only, in_map}
+use Rattle.lu_guards.proofs.ClientLocks.{used_only, in_map}
 use Rattle.lu_facts.proofs.Groups.{turn}
-use Rattle.lu_facts.proofs.HeldThere.{There, of_any, map_in, changed_there, used_there}
+use Rattle.lu_facts.proofs.HeldThere.{There, of_any, changed_there, used_there}
 use Rattle.lu_facts.proofs.TaughtKnown.{Agrees}
 use Rattle.lu_object_map.specs.Lives.{is_over}
 use Rattle.lu_object_ties.proofs.OverLives.{over_ending}
-use Rattle.lu_lawful.proofs.Printed.{flip}
 use Rattle.lu_lawful.proofs.Lines.{OfPrinted, Keeps, shown, holds_owed}
-use Rattle.lu_lawful.proofs.Handles.{and_true}
-use Rattle.lu_lawful.proofs.SoundRuns.{over_before}
 use Rattle.lu_lawful.proofs.WritesHeld.{no_writes}
 use Rattle.lu_lawful.proofs.KnownPlaces.{Locks, ServedOf, LastOf, served_stay, places_with, reached_with}
 use Rattle.lu_lawful.proofs.KnownLooks.{served_again}
 use Rattle.lu_lawful.proofs.KnownAgain.{narrow_has, wide_has, narrow_reached}
-use Rattle.lu_lawful.proofs.UnmarkedStays.{held_on, on_held}
-use Rattle.lu_lawful.proofs.ToldKnown.{read_known, stat_known}
 use Rattle.lu_lawful.proofs.SilentWorlds.{NoWrites, Lasting, Free, ReadBy, KnownRead, read_stays}
-use Rattle.lu_lawful.proofs.SilentKnown.{Grows, IsKnown, IsReadingCall, known_more, known_told, told_known}
-use Rattle.lu_lawful.proofs.SilentHeld.{bare_at, gives_up, MarksFree, Stays, Unmarked, lasts_clear, grows_to_bare, grows_from_bare, notes_grow, pins_grow, unpins_grow}
-use Rattle.lu_lawful.proofs.SilentOpens.{KeepsHandles, file_still}
-use Rattle.lu_lawful.proofs.SilentCalm.{called, call_is, begun_anew, marks_free, calm_stands, StandsIn, every_filter, every_both, every_in, in_every, every_map}
-use Rattle.lu_lawful.proofs.SilentReading.{ToRead, run_with, rest_with, last_wanted, calm_file}
-use Rattle.lu_lawful.proofs.SilentTaught.{told_is_known}
+use Rattle.lu_lawful.proofs.SilentKnown.{IsKnown, known_told}
+use Rattle.lu_lawful.proofs.SilentHeld.{bare_at, Unmarked, lasts_clear, grows_to_bare, grows_from_bare, pins_grow, unpins_grow}
+use Rattle.lu_lawful.proofs.SilentCalm.{every_in}
+use Rattle.lu_lawful.proofs.SilentReading.{ToRead, run_with, rest_with, last_wanted}
 use Rattle.lu_lawful.proofs.SilentAgrees.{agrees}
 use Rattle.lu_lawful.proofs.SilentServed.{repeats_unmarked}
-use Rattle.lu_lawful.proofs.SilentStats.{StatKnown, KnownBy, by_more, stat_told, stat_asks_none, stat_waits_none}
-
--- ---- each call whose answer is known is known by facts, or by what is known of bytes
-
--- under locks that last
-abbrev KnownAt : ℕ → List Line → Call → Type 0
-KnownAt c past k = KnownBy (bare_at c past) (KnownRead (Lasting c past) c past) (ServedOf (Lasting c past)) k
-
--- while the client holds no lock to write under, and its life isn't over
-abbrev Promise : ℕ → List Line → Call → Type 0
-Promise c past k = NoWrites c past → is_over c (life_at c past) past ≡ false → KnownAt c past k
-
-abbrev ReadAt : ℕ → List Line → Call → Type 0
-ReadAt c past k = KnownRead (Lasting c past) c past k
-
--- a call on names is no read
-names_read : (c : ℕ) (past : List Line) (file : Option HandleFile) (k : Call) (o : Op) → operation_of file k ≡ Some o → ReadAt c past k
-names_read c past file (call.Read h offset count) o e = absurd (cc)
-names_read c past file k o e = tt
-
-known_read : (c : ℕ) (past : List Line) (n : Notes) (k : Call) (a : Answer) → known_answer n k ≡ Some a → ReadAt c past k
-known_read c past n (call.Read h offset count) a e = absurd (cc)
-known_read c past n k a e = tt
-
-no_refusal : (given : Answer) → is_error given ≡ false → (e : Errno) → given ≡ told.Refused e → ⊥
-no_refusal given fine e is = let error : is_error given ≡ true = ap is_error is in absurd (cc)
-
--- a past of a run
-pub record Run (head : Head) (past : List Line) : Type 0 where
-  pub ranges : IsHead head
-  pub grown : Grown head past
-  pub pins : PinsFit past
-  pub heeds : AllHeed past
-  pub speaks : AllSpeak past
-
-before : (head : Head) (l : Line) (past : List Line) → Run head (l ∷ past) → Run head past
-before head l past y = record { ranges = y.ranges; grown = y.grown.1; pins = y.pins.1; heeds = y.heeds.1; speaks = y.speaks.1 }
-
--- the life goes on over a line that gives up none
-life_same : (c : ℕ) (l : Line) (past : List Line) → gives_up c l.at.node l.entry ≡ false → life_at c (l ∷ past) ≡ life_at c past
-life_same c l past = by l.at.node l.entry
-  where
-    by : (node : Node) (e : Entry) → gives_up c node e ≡ false → life_at c (line (turn l.at.stamp node) e ∷ past) ≡ life_at c past
-    by (Client d) (Life who) e = ap (λ (b : Bool). if b then who else life_at c past) e
-    by (Target t) (Life who) e = refl
-    by node e q = refl
-
-alive_before : (c : ℕ) (l : Line) (past : List Line) → gives_up c l.at.node l.entry ≡ false → is_over c (life_at c (l ∷ past)) (l ∷ past) ≡ false → is_over c (life_at c past) past ≡ false
-alive_before c l past stays alive = over_before c (life_at c past) l past (subst (λ (w : Who). is_over c w (l ∷ past) ≡ false) (life_same c l past stays) alive)
-
-module _ (head : Head) (c : ℕ) where
-  -- a line that gives up no lock and no life, and marks no pinned lock, keeps it, where it doesn't begin a call that opens or closes its handle
-  lasting_stays : (past : List Line) (l : Line) → Grown head (l ∷ past) → Stays c past l.at.node l.entry → (t : ℕ) (k : Lock) → Lasting c past t k → Lasting c (l ∷ past) t k
-  lasting_stays past l g stays t k (h, i, target, lock, is) =
-      let m = on_held head c l past g stays h i is in
-      (m.0, m.1, ap (λ (v : TargetId). v.0) m.3 ∙ target, m.4 ∙ lock, m.2)
-
-  writes_before : (past : List Line) (l : Line) → Grown head (l ∷ past) → Stays c past l.at.node l.entry → NoWrites c (l ∷ past) → NoWrites c past
-  writes_before past l g stays none h i mode =
-      let m = held_on head c l past g stays h i in
-      none m.0 m.1 (ap (λ (v : Lock). v.ask.mode) m.3 ∙ mode)
-
-  known_still : (past : List Line) (l : Line) → Grown head (l ∷ past) → Stays c past l.at.node l.entry → (k : Call) → KeepsHandles c l.at.node l.entry k → KnownAt c past k → KnownAt c (l ∷ past) k
-  known_still past l g stays k keeps =
-      by_more (bare_at c past) (bare_at c (l ∷ past)) (ReadAt c past) (ReadAt c (l ∷ past)) (ServedOf (Lasting c past)) (ServedOf (Lasting c (l ∷ past))) k (notes_grow c past l.at.stamp l.at.node l.entry g.0.ok stays) (agrees head c (l ∷ past) g)
-      (read_stays (Lasting c past) (Lasting c (l ∷ past)) c l past (lasting_stays past l g stays) stays.0 k
-      (λ h offset count f is bound. file_still head c h offset count l past f g stays.0 (subst (λ (v : Call). KeepsHandles c l.at.node l.entry v) is keeps) bound))
-      (λ u locked. served_stay (Lasting c past) (Lasting c (l ∷ past)) u (lasting_stays past l g stays) locked)
-
-  still : (past : List Line) (l : Line) → Grown head (l ∷ past) → Stays c past l.at.node l.entry → (k : Call) → KeepsHandles c l.at.node l.entry k → Promise c past k → Promise c (l ∷ past) k
-  still past l g stays k keeps p none alive = known_still past l g stays k keeps (p (writes_before past l g stays none) (alive_before c l past stays.0 alive))
-
-  -- the call that is told
-  told_one : (past : List Line) (at : At) (slot : ℕ) (named : At) (given : Answer) (work : Option Work) → Run head past → owed_of c past ≡ [] → at.node ≡ Client c → TellsOk past at c slot named given work → is_error given ≡ false
-      → (x : ℕ × Call) → In x (calm (who_is c (printed past)) (printed past)) → x.0 ≡ slot → Promise c past x.1
-  told_one past at slot named given work y owed own ok fine x i is none alive = by ok
-    where
-      g : Grown head past
-      g = y.grown
-
-      -- it is the call in the slot
-      the_call : (r : Running) → call_at c slot past ≡ Some r → r.call ≡ x.1
-      the_call r e =
-          let stands : call_in c x.0 (printed past) ≡ Some x.1 = every_in (StandsIn (λ k. call_in c k (printed past))) x (calm (who_is c (printed past)) (printed past)) (calm_stands head c past g) i in
-          let here : call_in c slot (printed past) ≡ Some r.call = call_is head c slot past g ∙ ap called e in
-          let there : call_in c slot (printed past) ≡ Some x.1 = subst (λ (v : ℕ). call_in c v (printed past) ≡ Some x.1) is stands in
-          cc
-
-      -- a call that is no stat of a file
-      other : (r : Running) → call_at c slot past ≡ Some r → IsKnown (bare_at c past) r.call → ReadAt c past r.call → KnownAt c past x.1
-      other r e knows read = subst (λ (v : Call). KnownAt c past v) (the_call r e) (inl (knows, read))
-
-      by : TellsOk past at c slot named given work → KnownAt c past x.1
-      by (inl a) = other a.running a.call (told_is_known head c slot past at named given work g (agrees head c past g) own a (no_refusal given fine) x i is) (names_read c past a.running.file a.running.call a.names.0 a.names.1)
-      by (inr (inl a)) =
-          other a.running a.call (known_more (notes_at c past) (bare_at c past) (grows_to_bare (facts_at c past) (held_at c past)) (agrees head c past g) a.running.call (told_known (notes_at c past) given a.running.call a.known))
-          (known_read c past (notes_at c past) a.running.call given a.known)
-      by (inr (inr (inl a))) = absurd (no_refusal given fine EIO a.of_answer)
-      by (inr (inr (inr (inl a)))) = absurd (no_refusal given fine EBADF a.of_answer)
-      -- a glimpse, a flush, a write or a cut is no reading
-      by (inr (inr (inr (inr (inl a))))) = subst (λ (v : Call). KnownAt c past v) (the_call a.running a.call) (subst (λ (v : Call). KnownAt c past v) (sym a.has.glimpses) (inl (tt, tt)))
-      by (inr (inr (inr (inr (inr (inl a)))))) = subst (λ (v : Call). KnownAt c past v) (the_call a.running a.call) (subst (λ (v : Call). KnownAt c past v) (sym a.flushes) (inl (tt, tt)))
-      by (inr (inr (inr (inr (inr (inr (inl a))))))) =
-          other a.running a.call (subst (λ (v : Call). IsKnown (bare_at c past) v) (sym a.does.read.reads) tt)
-          (subst (λ (v : Call). ReadAt c past v) (sym a.does.read.reads)
-          (read_known head y.ranges past g y.pins y.heeds y.speaks c alive owed none at own slot named given work x i is a
-          (calm_file head c past g x i a.running (subst (λ (v : ℕ). call_at c v past ≡ Some a.running) (sym is) a.call) a.does.read.file a.does.read.of_file a.does.read.handle a.does.read.offset a.does.read.count
-          (sym (the_call a.running a.call) ∙ a.does.read.reads))))
-      by (inr (inr (inr (inr (inr (inr (inr (inl a)))))))) =
-          subst (λ (v : Call). KnownAt c past v) (the_call a.running a.call)
-          (inr (stat_told head c slot past at named given work g own a x i is (ServedOf (Lasting c past)) (stat_known head y.ranges past g y.pins y.heeds y.speaks c alive owed none at own slot named given work x i is a)))
-      by (inr (inr (inr (inr (inr (inr (inr (inr a)))))))) = subst (λ (v : Call). KnownAt c past v) (the_call a.running a.call) (wrote a.running a.done a.does)
-        where
-          wrote : (r : Running) (w : Work) → ChangesOn r w → KnownAt c past r.call
-          wrote r w (inl d) = subst (λ (v : Call). KnownAt c past v) (sym d.writes) (inl (tt, tt))
-          wrote r w (inr d) = subst (λ (v : Call). KnownAt c past v) (sym d.cuts) (inl (tt, tt))
-
-  -- all that is told calm in the slot
-  told_all : (past : List Line) (at : At) (slot : ℕ) (named : At) (given : Answer) (work : Option Work) → Run head past → owed_of c past ≡ [] → at.node ≡ Client c → TellsOk past at c slot named given work
-      → Every (Promise c past) (told_calm slot given (calm (who_is c (printed past)) (printed past)))
-  told_all past at slot named given work y owed own ok = by (is_error given) refl
-    where
-      P : List (ℕ × Call)
-      P = calm (who_is c (printed past)) (printed past)
-
-      by : (b : Bool) → is_error given ≡ b → Every (Promise c past) (if b then [] else map (λ s. s.1) (filter (λ s. s.0 == slot) P))
-      by true e = tt
-      by false e =
-          in_every (Promise c past) (map (λ s. s.1) (filter (λ s. s.0 == slot) P))
-          (λ k i.
-          let m = map_in (λ (s : ℕ × Call). s.1) k (filter (λ s. s.0 == slot) P) i in
-          let f = in_filter (λ (s : ℕ × Call). s.0 == slot) m.0 P m.1.0 in
-          subst (λ (v : Call). Promise c past v) m.1.1 (told_one past at slot named given work y owed own ok e m.0 f.0 (eqb-true m.0.0 slot f.1)))
-
-  -- a call that begins: those that stay known are on other handles than it opens or closes
-  begun_known : (past : List Line) (stamp : Stamp) (d s : ℕ) (running : Running) → Grown head (line (turn stamp (Client d)) (Begin s running) ∷ past) → (t : Bool) → nat_eq d c ≡ t → (old : List Call) → Every (Promise c past) old
-      → Every (Promise c (line (turn stamp (Client d)) (Begin s running) ∷ past)) (if t then filter (λ known. not (rebinds running.call known)) old else old)
-  begun_known past stamp d s running g true e old h =
-      every_filter (λ known. not (rebinds running.call known)) (λ k is q. still past (line (turn stamp (Client d)) (Begin s running)) g (refl, tt) k (λ t. no (rebinds running.call k) is) q) old h
-    where
-      no : (b : Bool) → not b ≡ true → b ≡ false
-      no true e = absurd (cc)
-      no false e = refl
-  begun_known past stamp d s running g false e old h =
-      every_map (Promise c past) (Promise c (line (turn stamp (Client d)) (Begin s running) ∷ past)) old
-      (λ k q. still past (line (turn stamp (Client d)) (Begin s running)) g (refl, tt) k (λ t. let both : true ≡ false = sym t ∙ flip c d ∙ e in absurd (cc)) q) h
-
-  gone : (past : List Line) (t : Bool) (old : List Call) → (t ≡ false → Every (Promise c past) old) → Every (Promise c past) (if t then [] else old)
-  gone past true old h = tt
-  gone past false old h = h refl
-
-  more_known : (past : List Line) (t : Bool) (more old : List Call) → (t ≡ true → Every (Promise c past) more) → Every (Promise c past) old → Every (Promise c past) (if t then more ++ old else old)
-  more_known past true more old h k = every_both (Promise c past) more old (h refl) k
-  more_known past false more old h k = k
-
-  pub known_is_known : (past : List Line) → Run head past → Every (Promise c past) (known (who_is c (printed past)) (printed past))
-  known_is_known [] y = tt
-  known_is_known (l ∷ past) y = by l.at.node l.entry y (known_is_known past (before head l past y))
-    where
-      own : nat_eq (life c (printed past)) (life c (printed past)) ≡ true
-      own = self (life c (printed past))
-
-      P : List Call
-      P = known (who_is c (printed past)) (printed past)
-
-      after_line : (node : Node) (e : Entry) → Grown head (line (turn l.at.stamp node) e ∷ past) → Stays c past node e → ((k : Call) → KeepsHandles c node e k) → (xs : List Call)
-          → Every (Promise c past) xs → Every (Promise c (line (turn l.at.stamp node) e ∷ past)) xs
-      after_line node e g stays keeps xs h = every_map (Promise c past) (Promise c (line (turn l.at.stamp node) e ∷ past)) xs (λ k q. still past (line (turn l.at.stamp node) e) g stays k (keeps k) q) h
-
-      by : (node : Node) (e : Entry) → Run head (line (turn l.at.stamp node) e ∷ past) → Every (Promise c past) P
-          → Every (Promise c (line (turn l.at.stamp node) e ∷ past)) (known (who_is c (printed (line (turn l.at.stamp node) e ∷ past))) (printed (line (turn l.at.stamp node) e ∷ past)))
-      by (Client d) (Begin s running) y h = rw (own, and_true (nat_eq d c)) (begun_known past l.at.stamp d s running y.grown (nat_eq d c) refl P h)
-      by (Client d) (Told s named given work) y h =
-          rw (own, and_true (nat_eq d c))
-          (more_known (line (turn l.at.stamp (Client d)) (Told s named given work) ∷ past) (nat_eq d c) (told_calm s given (calm (who_is c (printed past)) (printed past))) P
-          (λ t.
-          let same : d ≡ c = eqb-true d c t in
-          after_line (Client d) (Told s named given work) y.grown (refl, tt) (λ k. tt) (told_calm s given (calm (who_is c (printed past)) (printed past)))
-          (told_all past (turn l.at.stamp (Client d)) s named given work (before head (line (turn l.at.stamp (Client d)) (Told s named given work)) past y)
-          (none_owed c past (line (turn l.at.stamp (Client d)) (Told s named given work)) (y.heeds.0 c) (λ z. z)) (ap Client same)
-          (subst (λ (v : ℕ). TellsOk past (turn l.at.stamp (Client d)) v s named given work) same y.grown.0.ok)))
-          (after_line (Client d) (Told s named given work) y.grown (refl, tt) (λ k. tt) P h))
-      by (Client d) (Drop t x) y h =
-          rw (own, and_true (nat_eq d c))
-          (gone (line (turn l.at.stamp (Client d)) (Drop t x) ∷ past) (nat_eq d c) P (λ f. after_line (Client d) (Drop t x) y.grown (flip c d ∙ f, tt) (λ k. tt) P h))
-      by (Client d) (Take n from m) y h = gone (line (turn l.at.stamp (Client d)) (Take n from m) ∷ past) _ P (λ f. after_line (Client d) (Take n from m) y.grown (refl, tt) (λ k. tt) P h)
-      by (Client d) (Life w) y h =
-          cond_both (nat_eq d c) w.life (life c (printed past))
-          (λ (v : ℕ). Every (Promise c (line (turn l.at.stamp (Client d)) (Life w) ∷ past)) (known (record { client = c; life = v }) (printed past)))
-          (λ t. subst (λ (v : List Call). Every (Promise c (line (turn l.at.stamp (Client d)) (Life w) ∷ past)) v) (sym (begun_anew head c d w past (turn l.at.stamp (Client d)) y.grown.1 y.grown.0.ok t).1) tt)
-          (λ f. after_line (Client d) (Life w) y.grown (flip c d ∙ f, tt) (λ k. tt) P h)
-      by (Client d) (Marks name) y h = ⊎_elim
-          (λ (free : MarksFree c past (Client d) (Marks name)). after_line (Client d) (Marks name) y.grown (refl, free) (λ k. tt) P h)
-          (λ (none : (calm (who_is c (printed past)) (printed past) ≡ []) × (P ≡ [])). subst (λ (v : List Call). Every (Promise c (line (turn l.at.stamp (Client d)) (Marks name) ∷ past)) v) (sym none.1) tt)
-          (marks_free head c past l.at.stamp d name y.grown.1 y.grown.0.ok)
-      by (Target u) (Begin s running) y h = absurd y.grown.0.ok
-      by (Target u) (Told s named given work) y h = absurd y.grown.0.ok
-      by (Target u) (Drop v x) y h = absurd y.grown.0.ok
-      by (Target u) (Life w) y h = absurd y.grown.0.ok
-      by (Target u) (Take n from m) y h = after_line (Target u) (Take n from m) y.grown (refl, tt) (λ k. tt) P h
-      by node e y h = after_line node e y.grown (refl, tt) (λ k. tt) P h
-
--- ---- a call that repeats one whose answer is known
-
-same_paths : (a b : List (List ℕ)) → same_path a b ≡ true → a ≡ b
-same_paths [] [] e = refl
-same_paths (n ∷ ns) (m ∷ ms) e = let p = and_parts (same_name n m) (same_path ns ms) e in ap (λ v. v ∷ ns) (one (name_tells n m) p.0) ∙ ap (λ v. m ∷ v) (same_paths ns ms p.1)
-  where
-    one : ((same_name n m ≡ true) × (n ≡ m)) ⊎ ((same_name n m ≡ false) × (n ≡ m → ⊥)) → same_name n m ≡ true → n ≡ m
-    one (inl q) e = q.1
-    one (inr q) e = let f = q.0 in absurd (cc)
-same_paths [] (m ∷ ms) e = absurd (cc)
-same_paths (n ∷ ns) [] e = absurd (cc)
-
-abbrev IsReadCall : Call → Type 0
-IsReadCall (call.Read h offset count) = Unit {0}
-IsReadCall _ = ⊥
-
--- its answer may be known
-abbrev MayKnow : Call → Type 0
-MayKnow k = IsReadingCall k ⊎ IsReadCall k
-
--- then it is the same call
-same_is : (a k : Call) → same_reading a k ≡ true → (k ≡ a) × MayKnow a
-same_is (call.Lookup p) (call.Lookup q) e = (ap call.Lookup (sym (same_paths p q e)), inl tt)
-same_is (call.Stat p) (call.Stat q) e = (ap call.Stat (sym (same_paths p q e)), inl tt)
-same_is (call.List p) (call.List q) e = (ap call.List (sym (same_paths p q e)), inl tt)
-same_is (call.Layout p) (call.Layout q) e = (ap call.Layout (sym (same_paths p q e)), inl tt)
-same_is (call.Read h offset count) (call.Read i start number) e =
-    let p = and_parts (h == i && offset == start) (count == number) e in
-    let q = and_parts (h == i) (offset == start) p.0 in (
-      ap (λ (n : ℕ). call.Read n start number) (sym (eqb-true h i q.0)) ∙ ap (λ (n : ℕ). call.Read h n number) (sym (eqb-true offset start q.1)) ∙ ap (λ (n : ℕ). call.Read h offset n) (sym (eqb-true count number p.1)),
-      inr tt,
-    )
-same_is _ _ e = absurd (cc)
-
--- ---- what a call that begins owes
-
-rebinds_self : (k : Call) → rebinds k k ≡ false
-rebinds_self (call.Open h path) = refl
-rebinds_self (call.Close h) = refl
-rebinds_self _ = refl
-
--- nothing is asked for a call that is known under locks that aren't marked
-agrees_too : (n k : Notes) → Grows n k → Agrees k → Agrees n
-agrees_too n k more a d m f g u v = a d m f g (more f u) (more g v)
-
--- it goes on
-abbrev StandsFor : ℕ → Entry → Type 0
-StandsFor slot (Stands s running) = s ≡ slot
-StandsFor slot _ = ⊥
-
-abbrev IsStatCall : Call → Type 0
-IsStatCall (call.Stat path) = Unit {0}
-IsStatCall _ = ⊥
-
--- what a call of which something is due may be followed by
-abbrev Follows : Running → ℕ → Entry → Type 0
-Follows r slot e =
-    ((r.stage ≡ Bad) × Starts slot Bad e) ⊎ ((r.stage ≡ Plain) × Starts slot Plain e) ⊎ ((r.stage ≡ Plain) × IsReadCall r.call × StartsRead slot e) ⊎ ((r.stage ≡ Plain) × IsStatCall r.call × StandsFor slot e)
-    ⊎ ((r.stage ≡ Plain) × OfFlush e)
-
-stat_starts : (slot : ℕ) (e : Entry) → StartsStat slot e → Starts slot Plain e ⊎ StandsFor slot e
-stat_starts slot (Stands s running) h = inr h
-stat_starts slot e h = inl h
-
-reading_owes : (same : Type 0) (k : Call) (slot : ℕ) (e : Entry) → IsReadingCall k → OwesBegun same slot Plain k e → same × ((Starts slot Plain e ⊎ (IsStatCall k × StandsFor slot e)) ⊎ OfFlush e)
-reading_owes same (call.Lookup path) slot e reads o = (o.0, ⊎_elim (λ (s : Starts slot Plain e). inl (inl s)) (λ (s : OfFlush e). inr s) o.1)
-reading_owes same (call.List path) slot e reads o = (o.0, ⊎_elim (λ (s : Starts slot Plain e). inl (inl s)) (λ (s : OfFlush e). inr s) o.1)
-reading_owes same (call.Layout path) slot e reads o = (o.0, ⊎_elim (λ (s : Starts slot Plain e). inl (inl s)) (λ (s : OfFlush e). inr s) o.1)
-reading_owes same (call.Stat path) slot e reads o =
-    (o.0, ⊎_elim (λ (s : StartsStat slot e). inl (⊎_elim (λ (z : Starts slot Plain e). inl z) (λ (z : StandsFor slot e). inr (tt, z)) (stat_starts slot e s))) (λ (s : OfFlush e). inr s) o.1)
-reading_owes same k slot e reads o = absurd reads
-
-read_owes : (same : Type 0) (k : Call) (slot : ℕ) (e : Entry) → IsReadCall k → OwesBegun same slot Plain k e → same × (StartsRead slot e ⊎ OfFlush e)
-read_owes same (call.Read h offset count) slot e reads o = o
-read_owes same k slot e reads o = absurd reads
-
-no_read_call : (k q : Call) → k ≡ q → IsReadCall k → (IsReadCall q → ⊥) → ⊥
-no_read_call k q e r n = n (subst IsReadCall e r)
-
-no_stat_call : (k q : Call) → k ≡ q → IsStatCall k → (IsStatCall q → ⊥) → ⊥
-no_stat_call k q e r n = n (subst IsStatCall e r)
-
--- of no file nothing is wanted, nor is anything missing of it
-none_wanted : (l : Raid0) (fid : Fid) (kind : Kind) → l ≡ no_file.layout → wants_of l fid kind ≡ []
-none_wanted l fid kind e = subst (λ (v : Raid0). wants_of v fid kind ≡ []) (sym e) (by kind)
-  where
-    by : (k : Kind) → wants_of no_file.layout fid k ≡ []
-    by (Narrow p n) = refl
-    by (Wide p n) = refl
-    by (Writes p bs) = refl
-    by (Cuts n) = refl
-    by (Stats mode links) = refl
-    by (Glimpses sizes) = refl
-
-none_in : (w : Use) (l : Raid0) (fid : Fid) (kind : Kind) → l ≡ no_file.layout → In w (wants_of l fid kind) → ⊥
-none_in w l fid kind e i = subst (λ (ws : List Use). In w ws) (none_wanted l fid kind e) i
-
-none_missing : (l : Raid0) (p end : ℕ) (s : Store) (us : List Using) → map (λ (u : Using). u.want) us ≡ [] → missing l p end s us ≡ None
-none_missing l p end s [] e = refl
-none_missing l p end s (u ∷ us) e = absurd (cc)
-
-clash_of : (b : Bool) → b ≡ true → b ≡ false → ⊥
-clash_of b e f = let both : true ≡ false = sym e ∙ f in cc
-
--- what is wanted is that of a use
-mapped_in : (w : Use) (us : List Using) → In w (map (λ (u : Using). u.want) us) → (u : Using) × In u us × (u.want ≡ w)
-mapped_in w [] i = absurd i
-mapped_in w (u ∷ us) (inl e) = (u, inl refl, e)
-mapped_in w (u ∷ us) (inr i) = let m = mapped_in w us i in (m.0, inr m.1, m.2)
-
--- a call that has just begun isn't moved by a message, nor is it at work
-plain_no_work : (s : Stage) (w : Work) → s ≡ Plain → work_in s ≡ Some w → ⊥
-plain_no_work s w p e = let q : None ≡ Some w = sym (ap work_in p) ∙ e in cc
-
-never_moved : (past : List Line) (at : At) (c : ℕ) (r : Running) (stage : Stage) → r.stage ≡ Plain → MovedStand past at c r stage → ⊥
-never_moved past at c r stage plain (inl h) = ⊎_elim (λ (k : LockBrought past at r h.work h.lock). plain_no_work r.stage h.work plain (ap work_in k.stage)) (λ (k : LockGranted past at r h.work h.lock). plain_no_work r.stage h.work plain (ap work_in k.stage)) h.from
-never_moved past at c r stage plain (inr (inl h)) = plain_no_work r.stage h.work plain (ap work_in h.before)
-never_moved past at c r stage plain (inr (inr (inl h))) = plain_no_work r.stage h.work plain (ap work_in h.before)
-never_moved past at c r stage plain (inr (inr (inr (inl h)))) = plain_no_work r.stage h.work plain (ap work_in h.before)
-never_moved past at c r stage plain (inr (inr (inr (inr h)))) = ⊎_elim
-    (λ (k : (r.stage ≡ Forgotten h.work) × ((t : ℕ) × (who : Who) × (boot committed : ℕ) × Took past at (Target t) (message.Ready who boot (record { 0 = committed })) × (is_left_at t h.work.left ≡ true))). plain_no_work r.stage h.work plain (ap work_in k.0))
-    (λ (k : (r.stage ≡ Gets h.work) × Replied past at r). plain_no_work r.stage h.work plain (ap work_in k.0)) h.from
-
--- ---- from the begin of a call a client only pins and unpins, and a flush waits on
-
-abbrev IsIdle : Entry → Type 0
-IsIdle (Pins name) = Unit {0}
-IsIdle (Unpins name) = Unit {0}
-IsIdle (Stands slot running) = IsFlushing running.stage
-IsIdle _ = ⊥
-
-abbrev Since : List Line → List Line → Type 0
-Since past [] = past ≡ []
-Since past (n ∷ now) = (past ≡ n ∷ now) ⊎ (IsIdle n.entry × Since past now)
-
-since_self : (past : List Line) → Since past past
-since_self [] = refl
-since_self (l ∷ past) = inl refl
-
-first_is : (l n : Line) (past now : List Line) → l ∷ past ≡ n ∷ now → l ≡ n
-first_is l n past now e = cc
-
-rest_is : (l n : Line) (past now : List Line) → l ∷ past ≡ n ∷ now → past ≡ now
-rest_is l n past now e = cc
-
--- one line less
-since_less : (l : Line) (past now : List Line) → IsIdle l.entry → Since (l ∷ past) now → Since past now
-since_less l past [] idle e = absurd (cc)
-since_less l past (n ∷ now) idle (inl e) = inr (subst (λ (x : Line). IsIdle x.entry) (first_is l n past now e) idle, subst (Since past) (rest_is l n past now e) (since_self past))
-since_less l past (n ∷ now) idle (inr k) = inr (k.0, since_less l past now idle k.1)
-
--- what the newest line must be for that
-abbrev Pinned : List Line → List Line → Entry → Type 0
-Pinned before now y = elim y [ Pins name ↦ PinsSince before now | Unpins name ↦ PinsSince before now | _ ↦ ⊥ ]
-
-pins_idle : (before now : List Line) → PinsSince before now → Since before now
-pins_idle before [] e = e
-pins_idle before (n ∷ now) (inl e) = inl e
-pins_idle before (n ∷ now) (inr k) = by n.entry k (λ v. pins_idle before now v)
-  where
-    by : (y : Entry) → Pinned before now y → (PinsSince before now → Since before now) → (before ≡ n ∷ now) ⊎ (IsIdle y × Since before now)
-    by (Pins name) k more = inr (tt, more k)
-    by (Unpins name) k more = inr (tt, more k)
-    by y k more = absurd k
-
--- of two such pasts the one that ends with the begin comes first
-since_between : (b : Line) (past before now : List Line) → (IsIdle b.entry → ⊥) → Since (b ∷ past) now → Since before now → Since (b ∷ past) before
-since_between b past before [] none e f = absurd (cc)
-since_between b past before (n ∷ now) none e (inl f) = subst (Since (b ∷ past)) (sym f) e
-since_between b past before (n ∷ now) none (inl e) (inr f) = absurd (none (subst (λ (x : Line). IsIdle x.entry) (sym (first_is b n past now e)) f.0))
-since_between b past before (n ∷ now) none (inr e) (inr f) = since_between b past before now none e.1 f.1
-
--- of what stands by then, what it stood for before
-abbrev Over : Stage → Type 0 → Type 0
-Over (Flushing stripe) A = A
-Over _ A = Unit {0}
-
-over_in : (stage : Stage) (A : Type 0) → (IsFlushing stage → A) → Over stage A
-over_in (Flushing stripe) A f = f tt
-over_in stage A f = tt
-
-over_out : (stage : Stage) (A : Type 0) → IsFlushing stage → Over stage A → A
-over_out (Flushing stripe) A i a = a
-over_out stage A i a = absurd i
-
-flushing_or : (stage : Stage) → IsFlushing stage ⊎ (IsFlushing stage → ⊥)
-flushing_or (Flushing stripe) = inl tt
-flushing_or stage = inr (λ i. i)
-
-stood_owes : (same Before : Type 0) (slot : ℕ) (stage : Stage) (e : Entry) → IsFlushing stage → OwesStood same slot stage Before e → Before
-stood_owes same Before slot (Flushing stripe) e i o = o
-stood_owes same Before slot stage e i o = absurd i
-
-stood_settled : (stage : Stage) (A : Type 0) → IsFlushing stage → StoodQuiet stage A → A
-stood_settled (Flushing stripe) A i q = q
-stood_settled stage A i q = absurd i
-
--- a held lock of that, not called back
-abbrev IsFreeOf : Lock → HeldLock → Type 0
-IsFreeOf k h = (h.lock ≡ k) × (h.marked ≡ false)
-
-there : (c : ℕ) (past : List Line) (t : ℕ) (k : Lock) → Free c past t k → There (IsFreeOf k) t k.cookie.0 (held_at c past)
-there c past t k (h, i, target, lock, free) = (h, (i, ((target, ap (λ (v : Lock). v.cookie.0) lock), (lock, free))))
-
-none_changed : (name : LockName) (what : Change) (held : List HeldLock) → ((x : HeldLock) → (after what x).lock ≡ x.lock) → ((h : HeldLock) → In h held → h.lock.ask.mode ≡ PW → ⊥) → (h : HeldLock) → In h (changed name what held) → h.lock.ask.mode ≡ PW → ⊥
-none_changed name what held same none h i = by (changed_only name what h held i)
-  where
-    by : (x : HeldLock) × In x held × ((if is_named name x then after what x else x) ≡ h) → h.lock.ask.mode ≡ PW → ⊥
-    by m = subst (λ (v : HeldLock). v.lock.ask.mode ≡ PW → ⊥) m.2 (cond_both (is_named name m.0) (after what m.0) m.0 (λ (v : HeldLock). v.lock.ask.mode ≡ PW → ⊥) (λ t e. none m.0 m.1 (ap (λ (l : Lock). l.ask.mode) (sym (same m.0)) ∙ e)) (λ t. none m.0 m.1))
+use Rattle.lu_lawful.proofs.SilentStats.{StatKnown, KnownBy, by_more, stat_asks_none, stat_waits_none}
+use Rattle.lu_lawful.proofs.SilentPromises.{KnownAt, Promise, Run, before, known_still, still, known_is_known}
+use Rattle.lu_lawful.proofs.SilentBegins.{IsReadCall, MayKnow, same_is, rebinds_self, agrees_too, StandsFor, IsStatCall, Follows, reading_owes, read_owes, no_read_call, no_stat_call, none_wanted, none_in, none_missing, clash_of, plain_no_work, never_moved, IsIdle, Since, since_self, since_less, pins_idle, since_between, Over, over_in, over_out, flushing_or, stood_owes, stood_settled, IsFreeOf, there, none_changed}
 
 module _ (head : Head) where
   -- as it is, a client knows it: no lock is marked under which it does
