@@ -19,8 +19,8 @@ use Rattle.lu_table.specs.Limits.{KeepsLimits}
 use Rattle.lu_table.specs.Scenarios.{head_of, with_stripes}
 use Rattle.lu_words.specs.Words.{Entry, Begin, Line, line}
 use Rattle.lu_after.proofs.Runs.{begins_meets}
-use Rattle.lu_covered_scenes.specs.Covered as scenes
-use Rattle.lu_covered_scenes.specs.Covered.{IsMade, IsLineCovered, IsNoCommand, LineMisses, IsCovered, AsksNoDisk}
+use Rattle.lu_covered_scenes.specs.Quiet as scenes
+use Rattle.lu_covered_scenes.specs.Quiet.{IsMade, IsBareLine, IsNoCommand, LineMisses, IsBareScene, AsksNoDisk}
 
 -- ---- calls
 
@@ -42,7 +42,7 @@ misses_same Made call m = m
 
 -- of a scenario that changes no bytes: it asks none
 abbrev pub IsQuiet : Scene → Type 0
-IsQuiet scene = IsCovered scene × AsksNoDisk scene
+IsQuiet scene = IsBareScene scene × AsksNoDisk scene
 
 -- a turn of what the scenario comes to may ask one
 abbrev pub MayAsk : Scene → Type 0
@@ -164,12 +164,12 @@ all_miss scene miss past begun call began =
 
 -- ---- where no line's call changes bytes, none does
 
-pub all_bare : (scene : Scene) → IsCovered scene → (past : List Line) → AllOfLines scene past → AllBare past
-all_bare scene covered [] begun = tt
-all_bare scene covered (l ∷ past) begun = by l.entry begun (all_bare scene covered past)
+pub all_bare : (scene : Scene) → IsBareScene scene → (past : List Line) → AllOfLines scene past → AllBare past
+all_bare scene bare_scene [] begun = tt
+all_bare scene bare_scene (l ∷ past) begun = by l.entry begun (all_bare scene bare_scene past)
   where
     bare : (call : CallOf) → Calls scene.lines call → ChangesNoBytes call
-    bare call i = called IsLineCovered ChangesNoBytes (λ client slot made is. changes_none made is) scene.lines call covered.lines i
+    bare call i = called IsBareLine ChangesNoBytes (λ client slot made is. changes_none made is) scene.lines call bare_scene.lines i
 
     by : (e : Entry) → AllOfLines scene (line l.at e ∷ past) → (AllOfLines scene past → AllBare past) → AllBare (line l.at e ∷ past)
     by (Begin slot running) begun more = (inr (bare running.call (begun running.call (inl refl))), more (λ call i. begun call (inr i)))

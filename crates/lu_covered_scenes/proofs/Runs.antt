@@ -27,7 +27,7 @@ use Rattle.lu_after.proofs.Clients.{client_first}
 use Rattle.lu_after.proofs.Posts.{sent_at_is}
 use Rattle.lu_after.proofs.Runs.{first_in, left_in, spent_in, client_meets}
 use Rattle.lu_lawful.proofs.GuardTurns.{covered_head}
-use Rattle.lu_covered_scenes.specs.Covered.{IsCovered, EvictsNone, AsksNoDisk, ticks_of}
+use Rattle.lu_covered_scenes.specs.Quiet.{IsBareScene, EvictsNone, AsksNoDisk, ticks_of}
 use Rattle.lu_covered_scenes.proofs.Arrivals.{client_calm, to_client}
 use Rattle.lu_covered_scenes.proofs.Every.{Every}
 use Rattle.lu_covered_scenes.proofs.Clients.{ImportCalm, Calm}
@@ -301,11 +301,11 @@ pub scene_covered : (scene : Scene) → KeepsLimits scene → (disks : Disks) (c
     → AllCovered (past_of c)
 scene_covered scene limits disks c l unfailed = (leads_follow scene limits disks c l unfailed).sound.covered
 
-pub scene_bare : (scene : Scene) → IsCovered scene → (disks : Disks) (c : Config) → Leads (head_of scene.head) disks (start (head_of scene.head) disks scene) c → has_failed (past_of c) ≡ false
+pub scene_bare : (scene : Scene) → IsBareScene scene → (disks : Disks) (c : Config) → Leads (head_of scene.head) disks (start (head_of scene.head) disks scene) c → has_failed (past_of c) ≡ false
     → AllBare (past_of c)
-scene_bare scene covered disks c l unfailed = all_bare scene covered (past_of c) (leads_follow scene covered.limits disks c l unfailed).sound.begun
+scene_bare scene bare disks c l unfailed = all_bare scene bare (past_of c) (leads_follow scene bare.limits disks c l unfailed).sound.begun
 
 -- where no start fails, and no line gives a command and no client is evicted, none does later: no turn asks a disk
-pub scene_unfailed : (scene : Scene) → IsCovered scene → AsksNoDisk scene → (disks : Disks) (c : Config) → Leads (head_of scene.head) disks (start (head_of scene.head) disks scene) c
+pub scene_unfailed : (scene : Scene) → IsBareScene scene → AsksNoDisk scene → (disks : Disks) (c : Config) → Leads (head_of scene.head) disks (start (head_of scene.head) disks scene) c
     → start_fails disks 0 (scene.head.osts + 1) ≡ None → has_failed (past_of c) ≡ false
-scene_unfailed scene covered quiet disks c l none = covered_unfailed (past_of c) (starts_follow scene covered.limits disks c (covered, quiet) l none).sound.covered
+scene_unfailed scene bare quiet disks c l none = covered_unfailed (past_of c) (starts_follow scene bare.limits disks c (bare, quiet) l none).sound.covered

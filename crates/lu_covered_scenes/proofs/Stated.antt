@@ -5,22 +5,11 @@ use Rattle.lu_words.specs.Printed.{printed}
 use Rattle.lu_table.specs.Limits.{KeepsLimits}
 use Rattle.lu_table.specs.Runs.{has_failed}
 use Rattle.lu_table.specs.Scenarios.{Config, Disks, Leads, start, head_of, past_of}
-use Rattle.lu_lawful.specs.SixLaws.{SixLaws}
 use Rattle.lu_lawful.specs.Lawful.{Lawful}
 use Rattle.lu_lawful.proofs.Whole as whole
-use Rattle.lu_covered_scenes.specs.Covered.{IsCovered}
 use Rattle.lu_covered_scenes.proofs.Runs.{scene_run, scene_covered}
 
-pub scene_keeps : (scene : Scene) → KeepsLimits scene → (disks : Disks) (c : Config) → Leads (head_of scene.head) disks (start (head_of scene.head) disks scene) c → has_failed (past_of c) ≡ false
-    → SixLaws scene.head.osts (printed (past_of c))
-scene_keeps scene limits disks c l unfailed =
-    whole.six (head_of scene.head) c.turns limits.head (scene_run scene limits disks c l unfailed) (scene_covered scene limits disks c l unfailed)
-
-pub scene_all : (scene : Scene) → KeepsLimits scene → (disks : Disks) (c : Config) → Leads (head_of scene.head) disks (start (head_of scene.head) disks scene) c → has_failed (past_of c) ≡ false
+pub scene_lawful : (scene : Scene) → KeepsLimits scene → (disks : Disks) (c : Config) → Leads (head_of scene.head) disks (start (head_of scene.head) disks scene) c → has_failed (past_of c) ≡ false
     → Lawful scene.head.osts (printed (past_of c))
-scene_all scene limits disks c l unfailed =
+scene_lawful scene limits disks c l unfailed =
     whole.lawful (head_of scene.head) c.turns limits.head (scene_run scene limits disks c l unfailed) (scene_covered scene limits disks c l unfailed)
-
-pub scene_lawful : (scene : Scene) → IsCovered scene → (disks : Disks) (c : Config) → Leads (head_of scene.head) disks (start (head_of scene.head) disks scene) c → has_failed (past_of c) ≡ false
-    → Lawful scene.head.osts (printed (past_of c))
-scene_lawful scene covered disks c l unfailed = scene_all scene covered.limits disks c l unfailed

@@ -20,7 +20,7 @@ use Rattle.lu_target_rows.specs.States.{Target, is_serving, lives_from, after, t
 use Rattle.lu_table.specs.Heads.{Head}
 use Rattle.lu_table.specs.Runs.{EventAt, has_failed, row_at, Meets, HasNumbers, client_of, target_of, limits_of, setting_of}
 use Rattle.lu_table.specs.Scenarios.{Config, Disks, head_of, past_of, first_failing, fails_at, calls_at, with_turn}
-use Rattle.lu_covered.specs.Covered.{IsCovered as IsCoveredLine, AllCovered}
+use Rattle.lu_covered.specs.Covered.{IsCovered, AllCovered}
 use Rattle.lu_covered.specs.TargetStates.{called_at}
 use Rattle.lu_after.specs.InTable.{next_at, InTable}
 use Rattle.lu_after.proofs.Clients.{client_own, client_other}
@@ -35,8 +35,8 @@ use Rattle.lu_lawful.proofs.Bare.{bare_grown}
 use Rattle.lu_lawful.proofs.GuardTurns.{covered_head}
 use Rattle.lu_lawful.proofs.Asked.{Began}
 use Rattle.lu_lawful.proofs.Unlocked.{unlocked, uncalled_other}
-use Rattle.lu_covered_scenes.specs.Covered as scenes
-use Rattle.lu_covered_scenes.specs.Covered.{IsNoCommand}
+use Rattle.lu_covered_scenes.specs.Quiet as scenes
+use Rattle.lu_covered_scenes.specs.Quiet.{IsNoCommand}
 use Rattle.lu_table.specs.Limits.{KeepsLimits}
 use Rattle.lu_covered_scenes.proofs.Arrivals.{Arrives, target_served}
 use Rattle.lu_covered_scenes.proofs.Asking.{AllSuit, turn_suits}
@@ -71,7 +71,7 @@ pub covered_unfailed : (past : List Line) → AllCovered past → has_failed pas
 covered_unfailed [] c = refl
 covered_unfailed (l ∷ past) c = by l.entry c.0 (covered_unfailed past c.1)
   where
-    by : (e : Entry) → IsCoveredLine e → has_failed past ≡ false → has_failed (line l.at e ∷ past) ≡ false
+    by : (e : Entry) → IsCovered e → has_failed past ≡ false → has_failed (line l.at e ∷ past) ≡ false
     by Fail is before = absurd is
     by e is before = before
 

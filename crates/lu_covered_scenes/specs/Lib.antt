@@ -1,4 +1,3 @@
-pub mod Covered
+pub mod Quiet
 pub use Rattle.lu_lawful.specs.Fits
-pub use Rattle.lu_lawful.specs.SixLaws
 pub use Rattle.lu_covered.specs.TargetCloses

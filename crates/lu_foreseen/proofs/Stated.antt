@@ -41,7 +41,7 @@ use Rattle.lu_covered_scenes.proofs.BareCalls.{BareSoFar}
 use Rattle.lu_covered_scenes.proofs.BareSteps.{bare_so_far}
 use Rattle.lu_covered_scenes.proofs.OnNames.{op_is}
 use Rattle.lu_after.proofs.Posts.{sent_at_is}
-use Rattle.lu_covered_scenes.specs.Covered.{IsCovered, AsksNoDisk, ticks_of}
+use Rattle.lu_covered_scenes.specs.Quiet.{IsBareScene, AsksNoDisk, ticks_of}
 use Rattle.lu_covered_scenes.proofs.Arrivals.{to_client}
 use Rattle.lu_covered_scenes.proofs.Asking.{IsOrdered}
 use Rattle.lu_covered_scenes.proofs.Lines.{IsQuiet, MayAsk, AllKnown, IsKnown, lines_known, called_fits, all_bare}
@@ -92,7 +92,7 @@ all_of P (x ∷ xs) so = All-cons P x xs (so x (inl refl)) (all_of P xs (λ y i.
 has_room : (c : Config) → is_full c ≡ false → length c.turns < 65536
 has_room c free = grind (arith, nat_tests)
 
-module _ (scene : Scene) (covered : IsCovered scene) (quiet : AsksNoDisk scene) (disks : Disks) (c : Config) (is : IsOpen scene disks c) where
+module _ (scene : Scene) (bare_scene : IsBareScene scene) (quiet : AsksNoDisk scene) (disks : Disks) (c : Config) (is : IsOpen scene disks c) where
   abbrev head : Head
   head = head_of scene.head
 
@@ -103,22 +103,22 @@ module _ (scene : Scene) (covered : IsCovered scene) (quiet : AsksNoDisk scene) 
   past = past_of c
 
   f : Follows scene c
-  f = leads_follow scene covered.limits disks c is.leads is.unfailed
+  f = leads_follow scene bare_scene.limits disks c is.leads is.unfailed
 
   room : length c.turns < 65536
   room = has_room c is.room
 
   g : Grown h past
-  g = past_grown scene covered.limits c f.sound
+  g = past_grown scene bare_scene.limits c f.sound
 
   bare : BareSoFar h past
-  bare = bare_so_far h past g (all_bare scene covered past f.sound.begun)
+  bare = bare_so_far h past g (all_bare scene bare_scene past f.sound.begun)
 
   serves_at : (t : ℕ) → is_serving (target_of head t past) ≡ true
-  serves_at t = serves_still scene covered.limits c f.sound t (covered, quiet)
+  serves_at t = serves_still scene bare_scene.limits c f.sound t (bare_scene, quiet)
 
   none : MayAsk scene → ⊥
-  none may = may (covered, quiet)
+  none may = may (bare_scene, quiet)
 
   -- ---- a message to a target
 
@@ -126,7 +126,7 @@ module _ (scene : Scene) (covered : IsCovered scene) (quiet : AsksNoDisk scene) 
   takes_so : (t : ℕ) (o : Op) → AskedAt past t o → Takes (kind_of t) o
   takes_so zero o (inl names) =
       let asked = names.1 in
-      names_take asked.2 asked.0 o asked.3 (called_fits scene scene.lines (lines_known scene covered.limits) asked.0 (f.sound.begun asked.0 asked.1))
+      names_take asked.2 asked.0 o asked.3 (called_fits scene scene.lines (lines_known scene bare_scene.limits) asked.0 (f.sound.begun asked.0 asked.1))
   takes_so zero o (inr objects) = absurd (let high = objects.0 in omega (arith, high))
   takes_so (suc t) o (inl names) = absurd (cc)
   takes_so (suc t) o (inr objects) = object_takes o objects.1 objects.2 objects.3
@@ -134,7 +134,7 @@ module _ (scene : Scene) (covered : IsCovered scene) (quiet : AsksNoDisk scene) 
   may_have : (t n : ℕ) (from : Node) (m : Message) → Sent past n from (Target t) m → MayHave m (target_of head t past)
   may_have t n from (message.Request r) sent =
       let fits : Fitting h past t r = request_fits (MayAsk scene) head.osts h past g bare f.sound.suits t n from r sent in
-      let most = covered.limits.head.most_flight in
+      let most = bare_scene.limits.head.most_flight in
       let tag = fits.tag in
       let queue : (target_of head t past).queue ≡ (server_of head.osts (only t past)).waiting = waiting_same (MayAsk scene) head.osts head.clients none h (setting_of head t) past f.sound.suits in (
         omega arith,
@@ -149,11 +149,11 @@ module _ (scene : Scene) (covered : IsCovered scene) (quiet : AsksNoDisk scene) 
 
   to_target : (t n : ℕ) (m : SentMessage) → (target_of head t past).up ≡ true → Sent past n m.from (Target t) m.message → IsForeseen head past (next_stamp c) (message_to m.from (Target t) m)
   to_target t n m up sent = (
-    comes_one scene covered.limits c t n m.from m.message f.sound sent,
+    comes_one scene bare_scene.limits c t n m.from m.message f.sound sent,
     up,
     serves_at t,
     may_have t n m.from m.message sent,
-    (comes_makes scene covered.limits c t n m.from m.message f.sound sent up room).numbers,
+    (comes_makes scene bare_scene.limits c t n m.from m.message f.sound sent up room).numbers,
   )
 
   -- ---- all messages
@@ -172,15 +172,15 @@ module _ (scene : Scene) (covered : IsCovered scene) (quiet : AsksNoDisk scene) 
   line_known : (line : SceneLine) (rest : List SceneLine) → c.lines ≡ line ∷ rest → IsKnown scene.lines scene.head.clients scene.head.osts line
   line_known line rest e = (subst (AllKnown scene) e f.lines).0
 
-  tick : (t : ℕ) → t ≤ head.osts → (IsQuiet scene → NoneDue scene covered.limits c t) → IsTickForeseen head past (next_stamp c) t
+  tick : (t : ℕ) → t ≤ head.osts → (IsQuiet scene → NoneDue scene bare_scene.limits c t) → IsTickForeseen head past (next_stamp c) t
   tick t one due =
       let low = f.sound.ticks t in
       let few_turns_made = room in
-      (λ all. omega arith, (tick_makes scene covered.limits c t f.sound due room one).numbers)
+      (λ all. omega arith, (tick_makes scene bare_scene.limits c t f.sound due room one).numbers)
 
   ticks : (t : ℕ) (rest : List SceneLine) → c.lines ≡ Tick (Target t) ∷ rest → IsTickForeseen head past (next_stamp c) t
-  ticks zero rest e = tick 0 (line_known (Tick (Target 0)) rest e) (names_due scene covered.limits c (ticks_of rest) f.sound (subst (λ (lines : List SceneLine). Timely scene (ticks_of lines) past) e f.time))
-  ticks (suc t) rest e = tick (suc t) (line_known (Tick (Target (suc t))) rest e) (others_due scene covered.limits c (suc t) f.sound (λ q. absurd (cc)))
+  ticks zero rest e = tick 0 (line_known (Tick (Target 0)) rest e) (names_due scene bare_scene.limits c (ticks_of rest) f.sound (subst (λ (lines : List SceneLine). Timely scene (ticks_of lines) past) e f.time))
+  ticks (suc t) rest e = tick (suc t) (line_known (Tick (Target (suc t))) rest e) (others_due scene bare_scene.limits c (suc t) f.sound (λ q. absurd (cc)))
 
   no_command : (line : SceneLine) → IsKnown scene.lines scene.head.clients scene.head.osts line → IsCommand line → ⊥
   no_command (Commit t) known is = absurd (known.some quiet.commands)
@@ -193,10 +193,10 @@ module _ (scene : Scene) (covered : IsCovered scene) (quiet : AsksNoDisk scene) 
   commands : (line : SceneLine) (rest : List SceneLine) → c.lines ≡ line ∷ rest → IsCommand line → ⊥
   commands line rest e = no_command line (line_known line rest e)
 
-pub all_foreseen : (scene : Scene) → IsCovered scene → AsksNoDisk scene → AllForeseen scene
-all_foreseen scene covered quiet =
+pub all_foreseen : (scene : Scene) → IsBareScene scene → AsksNoDisk scene → AllForeseen scene
+all_foreseen scene bare_scene quiet =
     record {
-      messages = λ disks c n m open_one e up. messages scene covered quiet disks c open_one n m e up;
-      ticks = λ disks c t rest open_one e. ticks scene covered quiet disks c open_one t rest e;
-      commands = λ disks c line rest open_one e command. commands scene covered quiet disks c open_one line rest e command;
+      messages = λ disks c n m open_one e up. messages scene bare_scene quiet disks c open_one n m e up;
+      ticks = λ disks c t rest open_one e. ticks scene bare_scene quiet disks c open_one t rest e;
+      commands = λ disks c line rest open_one e command. commands scene bare_scene quiet disks c open_one line rest e command;
     }

@@ -1,3 +1,2 @@
 pub mod Scenes
-pub use Rattle.lu_covered_scenes.specs.Covered
-pub use Rattle.lu_covered_scenes.specs.SixLaws
+pub use Rattle.lu_covered_scenes.specs.Quiet

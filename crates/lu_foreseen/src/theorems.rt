@@ -2,11 +2,11 @@
 //! scenario.
 
 ghost use Rattle.lu_scene.specs.declared.scene.Scene.{Scene};
-ghost use Rattle.lu_covered_scenes.specs.Covered.{IsCovered, AsksNoDisk};
+ghost use Rattle.lu_covered_scenes.specs.Quiet.{IsBareScene, AsksNoDisk};
 ghost use Rattle.lu_foreseen.specs.Scenes.{AllForeseen};
 
-/// Each covered scenario that asks no disk is: no line gives a command to a target, and the lines show that no client
-/// is evicted.
-pub fn covered_scenes_are_foreseen()
-    ensures foreseen { (scene : Scene) → IsCovered scene → AsksNoDisk scene → AllForeseen scene }
+/// Each scenario that changes no bytes and asks no disk is: no line calls `write` or `cut` or gives a command to a target, and
+/// the lines show that no client is evicted.
+pub fn quiet_scenes_are_foreseen()
+    ensures foreseen { (scene : Scene) → IsBareScene scene → AsksNoDisk scene → AllForeseen scene }
 {}

@@ -9,11 +9,9 @@ use Rattle.lu_laws.specs.Words.Lives.{is_gone}
 use Rattle.lu_laws.specs.Words.Lost.{is_lost}
 use Rattle.lu_laws.specs.Holds.{Holds}
 use Rattle.lu_laws.specs.Laws.Acts.{ActsOf}
-use Rattle.lu_laws.specs.Laws.Glimpse.{Glimpse}
 use Rattle.lu_laws.specs.Laws.History.{HistoryOf}
 use Rattle.lu_laws.specs.Lawful.{Lawful}
 use Rattle.lu_lawful.specs.Everywhere.{OfEveryRun, OfAllThatFit}
-use Rattle.lu_lawful.specs.SixLaws.{SixLaws}
 use Rattle.lu_guards.proofs.Turns.{covered_head}
 use Rattle.lu_guards.proofs.Obey.{grown, noted, settled}
 use Rattle.lu_guards.proofs.HeedRuns.{all_heed}
@@ -59,13 +57,8 @@ of_run head turns is run covered =
 pub history_of : OfAllThatFit (λ out lost osts whole. Holds (HistoryOf out lost osts) whole)
 history_of head turns is run covered out lost fits = history_law (covered_head head) out lost (lines_of turns) fits (of_run head turns is run covered)
 
-pub glimpses_of : OfEveryRun (λ osts whole. Holds (Glimpse osts whole) whole)
-glimpses_of head turns is run covered =
-    let k = of_run head turns is run covered in
-    glimpse_law (covered_head head) (lines_of turns) (record { ranges = k.ranges; grown = k.grown; pins = k.pins; heeds = k.heeds; speaks = k.speaks; shown = shown_run head turns run covered })
-
-pub six : OfEveryRun (λ osts whole. SixLaws osts whole)
-six head turns is run covered =
+pub lawful : OfEveryRun (λ osts whole. Lawful osts whole)
+lawful head turns is run covered =
     let past = lines_of turns in
     let few = covered_head head in
     let g = grown head turns run covered in
@@ -74,24 +67,9 @@ six head turns is run covered =
     record {
       messages = messages_law few past g;
       locks = locks_law few past g;
+      silent = silent_law few past (record { ranges = known.ranges; grown = known.grown; pins = known.pins; heeds = known.heeds; speaks = known.speaks }) (settled head turns run covered);
       acts = acts_of head turns is run covered (is_gone (printed past)) (is_lost (printed past)) fits;
       recovery = recovery_law few past g (noted head turns run covered) (all_asked few past g);
       history = history_of head turns is run covered (is_gone (printed past)) (is_lost (printed past)) fits;
       glimpse = glimpse_law few past (record { ranges = known.ranges; grown = known.grown; pins = known.pins; heeds = known.heeds; speaks = known.speaks; shown = shown_run head turns run covered });
-    }
-
-pub lawful : OfEveryRun (λ osts whole. Lawful osts whole)
-lawful head turns is run covered =
-    let past = lines_of turns in
-    let few = covered_head head in
-    let known = of_run head turns is run covered in
-    let laws = six head turns is run covered in
-    record {
-      messages = laws.messages;
-      locks = laws.locks;
-      silent = silent_law few past (record { ranges = known.ranges; grown = known.grown; pins = known.pins; heeds = known.heeds; speaks = known.speaks }) (settled head turns run covered);
-      acts = laws.acts;
-      recovery = laws.recovery;
-      history = laws.history;
-      glimpse = laws.glimpse;
     }

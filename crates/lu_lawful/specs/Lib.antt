@@ -1,4 +1,3 @@
 pub mod Fits
-pub mod SixLaws
 pub mod Everywhere
 pub use Rattle.lu_laws.specs.Lawful

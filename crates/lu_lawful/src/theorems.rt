@@ -12,7 +12,6 @@ ghost use Rattle.lu_laws.specs.Laws.Glimpse.{Glimpse};
 ghost use Rattle.lu_laws.specs.Lawful.{Lawful};
 ghost use Rattle.lu_laws.specs.Orderly.{Orderly};
 ghost use Rattle.lu_lawful.specs.Everywhere.{OfEveryRun, OfAllThatFit};
-ghost use Rattle.lu_lawful.specs.SixLaws.{SixLaws};
 
 /// The printed trace of every run of the whole table whose lines are covered is lawful, by all seven laws:
 /// whatever bytes are read, written and cut, whatever the network loses, repeats or reorders, whoever waits for a lock, whoever is evicted and joins in a new life,
@@ -30,7 +29,6 @@ pub fn covered_runs_are_lawful()
     ensures recovery { OfEveryRun (λ osts whole. Holds (Recovery osts whole) whole) }
     ensures history { OfEveryRun (λ osts whole. Holds (History osts whole) whole) }
     ensures glimpse { OfEveryRun (λ osts whole. Holds (Glimpse osts whole) whole) }
-    ensures six { OfEveryRun (λ osts whole. SixLaws osts whole) }
     ensures lawful { OfEveryRun (λ osts whole. Lawful osts whole) }
     ensures acts_of { OfAllThatFit (λ out lost osts whole. Holds (ActsOf out lost whole) whole) }
     ensures history_of { OfAllThatFit (λ out lost osts whole. Holds (HistoryOf out lost osts) whole) }

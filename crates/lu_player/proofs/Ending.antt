@@ -20,9 +20,7 @@ use Rattle.lu_laws.specs.Lawful.{Lawful, IsLawful}
 use Rattle.lu_table.specs.Heads.{Head}
 use Rattle.lu_table.specs.Runs.{has_failed}
 use Rattle.lu_table.specs.Scenarios.{Config, Disks, head_of, past_of, Leads, start}
-use Rattle.lu_foreseen.specs.Covered.{IsCovered}
-use Rattle.lu_foreseen.proofs.LawfulScenes.{scene_keeps, scene_lawful}
-use Rattle.lu_foreseen.specs.SixLaws.{SixLaws, KeepsSixLaws}
+use Rattle.lu_foreseen.proofs.LawfulScenes.{scene_lawful}
 use Rattle.lu_table.specs.Limits.{KeepsLimits}
 use Rattle.lu_steps.specs.Steps.{LeadsTo, none_failing}
 use Rattle.lu_steps.proofs.Turning.{none_leads, breaks_next}
@@ -229,21 +227,13 @@ is_played scene p played rest ended count trace =
       rose = λ t some. let both = ended.rose t some in (both.0, rose_longer p.nodes rest scene.head.osts t.0 count both.0 both.1);
     }
 
-pub is_lawful : (scene : Scene) (p : PlayerState) (ended : End) (failed : Option TargetId) (trace : Trace) → IsEnded scene p ended failed
-    → trace ≡ record { osts = scene.head.osts; entries = p.wire.entries } → IsCovered scene → failed ≡ None → IsLawful trace
-is_lawful scene p ended failed trace is same covered none =
+pub is_lawful : (scene : Scene) (p : PlayerState) (ended : End) (failed : Option TargetId) (trace : Trace) → KeepsLimits scene → IsEnded scene p ended failed
+    → trace ≡ record { osts = scene.head.osts; entries = p.wire.entries } → failed ≡ None → IsLawful trace
+is_lawful scene p ended failed trace limits is same none =
     let past = past_of is.config in
     let entries : reverse p.wire.entries ≡ printed past = ap reverse is.wire.entries ∙ reverse-reverse (printed past) in
     subst IsLawful (sym same)
-    (subst (λ (lines : List PrintedLine). Lawful scene.head.osts lines) (sym entries) (scene_lawful scene covered is.disks is.config is.leads (is.unfailed none)))
-
-pub is_kept : (scene : Scene) (p : PlayerState) (ended : End) (failed : Option TargetId) (trace : Trace) → KeepsLimits scene → IsEnded scene p ended failed
-    → trace ≡ record { osts = scene.head.osts; entries = p.wire.entries } → failed ≡ None → KeepsSixLaws trace
-is_kept scene p ended failed trace limits is same none =
-    let past = past_of is.config in
-    let entries : reverse p.wire.entries ≡ printed past = ap reverse is.wire.entries ∙ reverse-reverse (printed past) in
-    subst KeepsSixLaws (sym same)
-    (subst (λ (lines : List PrintedLine). SixLaws scene.head.osts lines) (sym entries) (scene_keeps scene limits is.disks is.config is.leads (is.unfailed none)))
+    (subst (λ (lines : List PrintedLine). Lawful scene.head.osts lines) (sym entries) (scene_lawful scene limits is.disks is.config is.leads (is.unfailed none)))
 
 pub some_rose : (scene : Scene) (p : PlayerState) (t : ℕ) (rest : List DiskState) → HasBroken scene t p → SomeRose scene (disks_of p.nodes ++ rest)
 some_rose scene p t rest broken = (t, broken.one, rose_longer p.nodes rest scene.head.osts t broken.count broken.one broken.rose)
@@ -280,17 +270,11 @@ module _ {D : Type 0} (view : D → DiskState) (scene : Scene) (p : PlayerState)
       (is_played scene p played (reverse (map view left)) (comes_ended scene p came played.end played.failed ran.comes ended) count trace)
   ran_played (Err e) trace ended = tt
 
-  pub ran_lawful : {E : Type 0} (result : Result Played E) → IfOk result (λ played. played.trace ≡ record { osts = scene.head.osts; entries = p.wire.entries })
-      → IfOk result (λ played. EndsWith came played.end played.failed) → IfOk result (λ played. IsCovered scene → played.failed ≡ None → IsLawful played.trace)
-  ran_lawful (Ok played) trace ended =
-      is_lawful scene p played.end played.failed played.trace (comes_ended scene p came played.end played.failed ran.comes ended) trace
-  ran_lawful (Err e) trace ended = tt
-
-  pub ran_keeps : {E : Type 0} (result : Result Played E) → KeepsLimits scene → IfOk result (λ played. played.trace ≡ record { osts = scene.head.osts; entries = p.wire.entries })
-      → IfOk result (λ played. EndsWith came played.end played.failed) → IfOk result (λ played. played.failed ≡ None → KeepsSixLaws played.trace)
-  ran_keeps (Ok played) limits trace ended =
-      is_kept scene p played.end played.failed played.trace limits (comes_ended scene p came played.end played.failed ran.comes ended) trace
-  ran_keeps (Err e) limits trace ended = tt
+  pub ran_lawful : {E : Type 0} (result : Result Played E) → KeepsLimits scene → IfOk result (λ played. played.trace ≡ record { osts = scene.head.osts; entries = p.wire.entries })
+      → IfOk result (λ played. EndsWith came played.end played.failed) → IfOk result (λ played. played.failed ≡ None → IsLawful played.trace)
+  ran_lawful (Ok played) limits trace ended =
+      is_lawful scene p played.end played.failed played.trace limits (comes_ended scene p came played.end played.failed ran.comes ended) trace
+  ran_lawful (Err e) limits trace ended = tt
 
   pub ran_rose : (t : TargetId) → came ≡ progress.Broken t → SomeRose scene (map view last)
   ran_rose t is =

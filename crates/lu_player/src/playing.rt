@@ -2,8 +2,6 @@
 
 ghost use Rattle.std.specs.Prelude.{◌≡◌, ◌⊎◌, ◌≤◌, ℕ, List, [], length, map, All, Err, None, IfOk, OnOk};
 ghost use Rattle.lu_laws.specs.Lawful.{IsLawful};
-ghost use Rattle.lu_foreseen.specs.Covered.{IsCovered};
-ghost use Rattle.lu_foreseen.specs.SixLaws.{KeepsSixLaws};
 ghost use Rattle.lu_foreseen.specs.Scenes.{AllForeseen};
 ghost use Rattle.lu_wire.specs.Wires.{empty_wire};
 ghost use Rattle.lu_scene.specs.declared.scene.Scene.{Scene as SceneOf};
@@ -51,10 +49,8 @@ pub fn play<D: Disk + Drop>(
     ensures back { OnOk result (AreBack scene.now
         (map (λ d. record { batches = D.batches d; faults = D.faults d }) disks.old.items)
         (map (λ d. record { batches = D.batches d; faults = D.faults d }) disks.new.items)) }
-    // Where no disk failed the trace keeps all laws but that of silent repeats; and it is lawful, by all laws, where no
-    // call of the scenario changes bytes.
-    ensures keeps { IfOk result (λ played. played.failed ≡ None → KeepsSixLaws played.trace) }
-    ensures lawful { IfOk result (λ played. IsCovered scene.now → played.failed ≡ None → IsLawful played.trace) }
+    // Where no disk failed the trace is lawful.
+    ensures lawful { IfOk result (λ played. played.failed ≡ None → IsLawful played.trace) }
     // Where all turns are foreseen, a disk failed.
     ensures unforeseen { result ≡ Err play_fault.Unforeseen → AllForeseen scene.now
         → SomeRose scene.now (map (λ d. record { batches = D.batches d; faults = D.faults d }) disks.new.items) }

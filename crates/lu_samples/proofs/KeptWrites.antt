@@ -1,4 +1,4 @@
--- The scenes with writes keep the limits, so what they come to keeps six laws.
+-- The scenes with writes keep the limits, so what they come to is lawful.
 use Rattle.std.proofs.Common.{ℕ, zero, suc, ◌<◌, [], ◌∷◌, refl, lit≤}
 use Rattle.std.specs.Prelude.{slice_index}
 use Rattle.lu_scene.specs.Grammar.{LineFits}
@@ -6,11 +6,11 @@ use Rattle.lu_table.specs.Heads.{IsHead}
 use Rattle.lu_table.specs.Limits.{KeepsLimits}
 use Rattle.lu_table.specs.Scenarios.{head_of}
 use Rattle.lu_laws.proofs.Words.{◌then◌}
+use Rattle.lu_laws.specs.Lawful.{Lawful}
 use Rattle.lu_layout.specs.Raid0.{stripe_of, offset_of, position_of, below_of, greatest_end}
-use Rattle.lu_covered_scenes.specs.SixLaws.{SixLaws}
 use Rattle.lu_samples.proofs.Words.{trace_after}
 use Rattle.lu_samples.proofs.Writes.{written, asked, grown}
-use Rattle.lu_samples.proofs.Covering.{is_path_f, all_of, keeps}
+use Rattle.lu_samples.proofs.Keeping.{is_path_f, all_of, lawful}
 
 is_two : IsHead (head_of written.head)
 is_two =
@@ -52,9 +52,9 @@ written_keeps =
       lines = all_of (LineFits written.head) written.lines ((lit≤ tt, lit≤ tt, (is_path_f, (lit≤ tt, lit≤ tt))) then tt then (lit≤ tt, lit≤ tt, (lit≤ tt, is_path_f)) then tt then (lit≤ tt, lit≤ tt, (lit≤ tt, is_path_f)) then tt then (lit≤ tt, lit≤ tt, (lit≤ tt, are_bytes, lit≤ tt, lit≤ tt, lit≤ tt)) then tt then (lit≤ tt, lit≤ tt, (lit≤ tt, lit≤ tt, lit≤ tt, lit≤ tt)) then tt then tt);
     }
 
-pub written_lawful : SixLaws 1 (trace_after 60 written)
+pub written_lawful : Lawful 1 (trace_after 60 written)
 unfolding stripe_of offset_of position_of below_of greatest_end
-written_lawful = keeps written 60 written_keeps refl
+written_lawful = lawful written 60 written_keeps refl
 
 pub asked_keeps : KeepsLimits asked
 asked_keeps =
@@ -63,9 +63,9 @@ asked_keeps =
       lines = all_of (LineFits asked.head) asked.lines ((lit≤ tt, lit≤ tt, (is_path_f, (lit≤ tt, lit≤ tt))) then tt then (lit≤ tt, lit≤ tt, (lit≤ tt, is_path_f)) then tt then (lit≤ tt, lit≤ tt, (lit≤ tt, is_path_f)) then tt then (lit≤ tt, lit≤ tt, (lit≤ tt, are_bytes, lit≤ tt, lit≤ tt, lit≤ tt)) then tt then (lit≤ tt, lit≤ tt, lit≤ tt) then tt then tt);
     }
 
-pub asked_lawful : SixLaws 1 (trace_after 60 asked)
+pub asked_lawful : Lawful 1 (trace_after 60 asked)
 unfolding stripe_of offset_of position_of below_of greatest_end
-asked_lawful = keeps asked 60 asked_keeps refl
+asked_lawful = lawful asked 60 asked_keeps refl
 
 pub grown_keeps : KeepsLimits grown
 grown_keeps =
@@ -74,6 +74,6 @@ grown_keeps =
       lines = all_of (LineFits grown.head) grown.lines ((lit≤ tt, lit≤ tt, (is_path_f, (lit≤ tt, lit≤ tt))) then tt then (lit≤ tt, lit≤ tt, (lit≤ tt, is_path_f)) then tt then (lit≤ tt, lit≤ tt, (lit≤ tt, lit≤ tt)) then tt then (lit≤ tt, lit≤ tt, (lit≤ tt, lit≤ tt, lit≤ tt, lit≤ tt)) then tt then tt);
     }
 
-pub grown_lawful : SixLaws 2 (trace_after 60 grown)
+pub grown_lawful : Lawful 2 (trace_after 60 grown)
 unfolding stripe_of offset_of position_of below_of greatest_end
-grown_lawful = keeps grown 60 grown_keeps refl
+grown_lawful = lawful grown 60 grown_keeps refl

@@ -18,10 +18,10 @@ pub mod KeptReply
 pub mod GapInFlight
 pub mod JoinsAgain
 pub mod RepliesLost
-pub mod Covering
-pub mod Covered
-pub mod CoveredReads
-pub mod CoveredStats
+pub mod Keeping
+pub mod Kept
+pub mod KeptReads
+pub mod KeptStats
 pub mod KeptWrites
 pub mod Fits
 pub mod Unfit

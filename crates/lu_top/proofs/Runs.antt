@@ -36,7 +36,7 @@ module _ (performance : Performance) (left rest : Option (List ℕ)) (held : Lis
 
   -- the disk whose failure is told did fail
   pub disk_failed : (t : TargetId) → answer ≡ status.DiskFault t → OfScene performance left rest (HasFailed held t)
-  disk_failed t same = let out = as_is (status.DiskFault t) same in (scene, is, out.1.rose t out.4.0)
+  disk_failed t same = let out = as_is (status.DiskFault t) same in (scene, is, out.1.rose t out.3.0)
 
   -- under `storm` the summary was written
   pub wrote_storm : (seed : ℕ) → answer ≡ status.Done → performance ≡ Storm seed → WroteStorm old new held seed
@@ -50,7 +50,7 @@ module _ (performance : Performance) (left rest : Option (List ℕ)) (held : Lis
           by_seed n same one out = record {
             played = out.0;
             run = subst (λ (s : Scene). IsPlayed s out.0 held) (one ∙ ap storm_of (sym same)) out.1;
-            whole = out.4.0;
-            wrote = subst (λ (k : ℕ). Appends old new (summary_text k out.0.trace.entries)) (sym same) out.4.1;
-            keeps = out.2 out.4.0;
+            whole = out.3.0;
+            wrote = subst (λ (k : ℕ). Appends old new (summary_text k out.0.trace.entries)) (sym same) out.3.1;
+            lawful = out.2 out.3.0;
           }

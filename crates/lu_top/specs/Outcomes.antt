@@ -10,8 +10,6 @@ use Rattle.lu_scene.specs.declared.scene.Scene.{Scene}
 use Rattle.lu_trace.specs.Traces.{trace_text}
 use Rattle.lu_summary.specs.Summaries.{summary_text}
 use Rattle.lu_player.specs.Lawful.{IsLawful}
-use Rattle.lu_player.specs.Covered.{IsCovered}
-use Rattle.lu_player.specs.SixLaws.{KeepsSixLaws}
 use Rattle.lu_player.specs.Nodes.{DiskState}
 use Rattle.lu_player.specs.declared.playing.Played.{Played}
 use Rattle.lu_player.specs.Played.{IsPlayed, faults_at}
@@ -56,14 +54,12 @@ text_by Play played = trace_text played.trace played.end
 text_by (Storm seed) played = summary_text seed played.trace.entries
 
 -- A run of the scenario of a performance, with what the source had and has left, and with what the disks hold then. Where no
--- disk failed its trace keeps all laws but that of silent repeats; and it is lawful, by all laws, where no call of the
--- scenario changes bytes (`IsCovered`).
+-- disk failed its trace is lawful.
 pub record IsRunOf (performance : Performance) (left rest : Option (List ℕ)) (held : List DiskState) (played : Played) : Type 0 where
   pub scene : Scene
   pub is : IsSceneBy performance left rest scene
   pub run : IsPlayed scene played held
-  pub keeps : played.failed ≡ None → KeepsSixLaws played.trace
-  pub lawful : IsCovered scene → played.failed ≡ None → IsLawful played.trace
+  pub lawful : played.failed ≡ None → IsLawful played.trace
 
 -- some run of a performance, in which this disk failed or none, and this holds of what is written of it
 abbrev pub WroteOf : Performance → Option (List ℕ) → Option (List ℕ) → List DiskState → Option TargetId → (List ℕ → Type 0) → Type 0
@@ -89,8 +85,7 @@ HasFailed held t scene = (t.0 ≤ scene.head.osts) × Rose 0 (faults_at held t.0
 
 -- ---- what is written where all went well
 
--- the trace of a run of the scenario that a text is was written whole, with how it ended; it keeps all laws but that of silent
--- repeats, and is lawful, by all laws, where no call of the scenario changes bytes
+-- the trace of a run of the scenario that a text is was written whole, with how it ended; it is lawful
 pub record WroteRun (old new : Option (List ℕ)) (held : List DiskState) (text : List ℕ) : Type 0 where
   pub scene : Scene
   pub is : IsScene text scene
@@ -98,16 +93,15 @@ pub record WroteRun (old new : Option (List ℕ)) (held : List DiskState) (text 
   pub run : IsPlayed scene played held
   pub whole : played.failed ≡ None
   pub wrote : Appends old new (trace_text played.trace played.end)
-  pub keeps : KeepsSixLaws played.trace
-  pub lawful : IsCovered scene → IsLawful played.trace
+  pub lawful : IsLawful played.trace
 
--- the summary of the trace of a run of the storm of a number was written whole; that trace keeps these six laws
+-- the summary of the trace of a run of the storm of a number was written whole; that trace is lawful
 pub record WroteStorm (old new : Option (List ℕ)) (held : List DiskState) (seed : ℕ) : Type 0 where
   pub played : Played
   pub run : IsPlayed (storm_of seed) played held
   pub whole : played.failed ≡ None
   pub wrote : Appends old new (summary_text seed played.trace.entries)
-  pub keeps : KeepsSixLaws played.trace
+  pub lawful : IsLawful played.trace
 
 -- ---- what performing a scenario comes to
 
@@ -124,7 +118,7 @@ abbrev pub IsOutcome : Performance → Scene → List DiskState → Option (List
 IsOutcome performance scene held old new before now status.Unforeseen = WasTold old new before now unforeseen_text
 IsOutcome performance scene held old new before now status.Memory = Unit {0}
 IsOutcome performance scene held old new before now answer =
-    (played : Played) × IsPlayed scene played held × (played.failed ≡ None → KeepsSixLaws played.trace) × (IsCovered scene → played.failed ≡ None → IsLawful played.trace)
+    (played : Played) × IsPlayed scene played held × (played.failed ≡ None → IsLawful played.trace)
     × IsWritten performance played old new before now answer
 
 -- ---- answers

@@ -41,8 +41,7 @@ pub fn run_command<R: Env + AllocGlobal, S: Source, K: Sink, D: Disk + Drop>(
 ) -> Status
     requires fresh { AreFresh (held_by D.batches D.faults disks.old.items) }
     // What was written is the trace of a run of the scenario that was read, or the summary of one of the storm; and that trace
-    // keeps all laws but that of silent repeats, and is lawful where no call of the scenario changes bytes. Or it is
-    // that the trace which was read breaks no law.
+    // is lawful. Or it is that the trace which was read breaks no law.
     ensures written { result ≡ Status.Done
         → (words : List (List ℕ)) × (WroteBy words (S.left source.old) (S.left source.new)
         (held_by D.batches D.faults disks.new.items) None (Appends (K.holds sink.old) (K.holds sink.new))

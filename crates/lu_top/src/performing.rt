@@ -9,7 +9,7 @@ ghost use Rattle.lu_scene.specs.Grammar.{IsScene, IsFirstFault};
 ghost use Rattle.lu_scene.specs.declared.scene.Scene.{Scene as SceneOf};
 ghost use Rattle.lu_scene.specs.declared.faults.Fault.{Fault as FaultOf};
 ghost use Rattle.lu_player.specs.Limits.{KeepsLimits};
-ghost use Rattle.lu_player.specs.Covered.{IsCovered, AsksNoDisk};
+ghost use Rattle.lu_player.specs.Quiet.{IsBareScene, AsksNoDisk};
 ghost use Rattle.lu_player.specs.Played.{AreFresh, AreBack, SomeRose};
 ghost use Rattle.lu_top.specs.Asked.{most_scene_bytes, WasRead, IsGiven};
 ghost use Rattle.lu_top.specs.Outcomes.{held_by, text_by, WasTold, Tells, WroteOf, OfScene, HasFailed, WroteRun, WroteStorm, IsWritten, IsOutcome, HasRun, HasRefused, IsDone, IsRefused, IsPerformedStatus, IsOfPerformance};
@@ -68,7 +68,7 @@ pub(crate) fn perform_asked<S: Source, K: Sink, D: Disk + Drop>(
         → IsScene text scene → IsPerformedStatus result }
     ensures done { (text : List ℕ) (scene : SceneOf) → performance ≡ Performance.Play
         → IsGiven most_scene_bytes (S.left source.old) (S.faults source.old) (S.faults source.new) text
-        → IsScene text scene → IsCovered scene → AsksNoDisk scene → ¬ Rose (K.faults sink.old) (K.faults sink.new)
+        → IsScene text scene → IsBareScene scene → AsksNoDisk scene → ¬ Rose (K.faults sink.old) (K.faults sink.new)
         → ¬ SomeRose scene (held_by D.batches D.faults disks.new.items) → IsDone result }
     ensures storm_performed { (seed : ℕ) → performance ≡ Performance.Storm seed → IsPerformedStatus result }
 
@@ -108,7 +108,7 @@ fn perform<K: Sink, D: Disk + Drop>(
         (K.holds sink.old) (K.holds sink.new) (K.faults sink.old) (K.faults sink.new) result }
     ensures back { HasRun result
         → AreBack scene.now (held_by D.batches D.faults disks.old.items) (held_by D.batches D.faults disks.new.items) }
-    ensures done { IsCovered scene.now → AsksNoDisk scene.now → ¬ Rose (K.faults sink.old) (K.faults sink.new)
+    ensures done { IsBareScene scene.now → AsksNoDisk scene.now → ¬ Rose (K.faults sink.old) (K.faults sink.new)
         → ¬ SomeRose scene.now (held_by D.batches D.faults disks.new.items) → IsDone result }
     ensures memory { result ≡ Status.Memory → sink.new ≡ sink.old }
 {

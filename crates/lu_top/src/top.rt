@@ -13,7 +13,7 @@ ghost use Rattle.lu_reader.specs.Reads.{IsFirstBad};
 ghost use Rattle.lu_verdict.specs.declared.laws.Law.{Law};
 ghost use Rattle.lu_verdict.specs.declared.verdicts.Verdict.{Verdict};
 ghost use Rattle.lu_verdict.specs.declared.verdicts.Verdict.TheVariants.{Lawful, Broken};
-ghost use Rattle.lu_player.specs.Covered.{IsCovered, AsksNoDisk};
+ghost use Rattle.lu_player.specs.Quiet.{IsBareScene, AsksNoDisk};
 ghost use Rattle.lu_player.specs.Played.{AreFresh, AreBack, SomeRose};
 ghost use Rattle.lu_top.specs.declared.forms.Form.{Form as FormOf};
 ghost use Rattle.lu_top.specs.declared.forms.Performance.TheVariants.{Play, Storm};
@@ -42,7 +42,8 @@ pub fn run<S: Source, K: Sink, D: Disk + Drop>(
     disks: &mut Vec<D>,
 ) -> Status
     requires fresh { AreFresh (held_by D.batches D.faults disks.old.items) }
-    // What was written is the trace of a run of the scenario that was read, or the summary of one of the storm.
+    // What was written is the trace of a run of the scenario that was read, or the summary of one of the storm; and that trace
+    // is lawful.
     ensures run { result ≡ Status.Done → Says (map string_bytes words.now) (Form.Perform Play)
         → WasRead most_scene_bytes (S.left source.old) (S.left source.new)
         (WroteRun (K.holds sink.old) (K.holds sink.new) (held_by D.batches D.faults disks.new.items)) }
@@ -95,7 +96,7 @@ pub fn run<S: Source, K: Sink, D: Disk + Drop>(
         → IsScene text scene → IsPerformedStatus result }
     ensures done { (text : List ℕ) (scene : Scene) → Says (map string_bytes words.now) (Form.Perform Play)
         → IsGiven most_scene_bytes (S.left source.old) (S.faults source.old) (S.faults source.new) text
-        → IsScene text scene → IsCovered scene → AsksNoDisk scene → ¬ Rose (K.faults sink.old) (K.faults sink.new)
+        → IsScene text scene → IsBareScene scene → AsksNoDisk scene → ¬ Rose (K.faults sink.old) (K.faults sink.new)
         → ¬ SomeRose scene (held_by D.batches D.faults disks.new.items) → IsDone result }
     ensures storm_performed { (seed : ℕ) → Says (map string_bytes words.now) (Form.Perform (Storm seed))
         → IsPerformedStatus result }

@@ -7,7 +7,7 @@ use Rattle.lu_player.specs.States.{PlayerState}
 use Rattle.lu_player.specs.Progress.{Comes}
 use Rattle.lu_player.specs.Played.{IsStarting}
 use Rattle.lu_player.proofs.Performing.{passed_on}
-use Rattle.lu_player.proofs.Ending.{comes_have, Ran, ran_back, ran_played, ran_keeps, ran_lawful, ran_rose, turned_empty}
+use Rattle.lu_player.proofs.Ending.{comes_have, Ran, ran_back, ran_played, ran_lawful, ran_rose, turned_empty}
 use Rattle.lu_player.proofs.playing.play.Goals as goal
 
 pub new-requires-clause-empty : goal.new-requires-clause-empty
@@ -67,24 +67,6 @@ returns-clause-back g c =
     } in
     ran_back (λ d. record { batches = g.D.Disk.batches d; faults = g.D.Disk.faults d }) scene p c.in_ok-progress.progress c.args.disks.now.items c.reverse.new.self.items c.new.new.disks.items c.give_back.new.disks.items c.reverse-2.new.self.items ran c.finish.result
 
-pub returns-clause-keeps : goal.returns-clause-keeps
-returns-clause-keeps g c =
-    let scene : Scene = c.args.scene.now in
-    let p : PlayerState = record { nodes = c.player.inside.nodes; wire = c.player.inside.wire } in
-    let starting : IsStarting scene c.as_slice.result.now (record { nodes = c.in_ok-new.field-0; wire = c.new-2.result }) =
-    record { limits = c.requires.limits; lines = sym c.as_slice.ensures.same; nodes = c.in_ok-new.ensures.unstarted; wire = c.new-2.ensures.empty } in
-    let comes = subst (λ (q : PlayerState). Comes scene [] q c.in_ok-progress.progress) (sym c.player.view_is) (c.in_ok-progress.ensures.played scene starting) in
-    let ran : Ran (λ d. record { batches = g.D.Disk.batches d; faults = g.D.Disk.faults d }) scene p c.in_ok-progress.progress c.args.disks.now.items c.reverse.new.self.items c.new.new.disks.items c.give_back.new.disks.items c.reverse-2.new.self.items = record {
-      comes = comes;
-      round = c.reverse.ensures.items;
-      off = c.in_ok-new.ensures.rest;
-      put = c.in_ok-give_back.ensures.given;
-      again = c.reverse-2.ensures.items;
-      nine = c.requires.fresh.nine;
-    } in
-    let trace = subst (λ (lines : List PrintedLine). IfOk c.finish.result (λ played. played.trace ≡ record { osts = scene.head.osts; entries = lines })) c.into_entries.ensures.lines c.finish.ensures.trace in
-    ran_keeps (λ d. record { batches = g.D.Disk.batches d; faults = g.D.Disk.faults d }) scene p c.in_ok-progress.progress c.args.disks.now.items c.reverse.new.self.items c.new.new.disks.items c.give_back.new.disks.items c.reverse-2.new.self.items ran c.finish.result c.requires.limits trace c.finish.ensures.ended
-
 pub returns-clause-lawful : goal.returns-clause-lawful
 returns-clause-lawful g c =
     let scene : Scene = c.args.scene.now in
@@ -101,7 +83,7 @@ returns-clause-lawful g c =
       nine = c.requires.fresh.nine;
     } in
     let trace = subst (λ (lines : List PrintedLine). IfOk c.finish.result (λ played. played.trace ≡ record { osts = scene.head.osts; entries = lines })) c.into_entries.ensures.lines c.finish.ensures.trace in
-    ran_lawful (λ d. record { batches = g.D.Disk.batches d; faults = g.D.Disk.faults d }) scene p c.in_ok-progress.progress c.args.disks.now.items c.reverse.new.self.items c.new.new.disks.items c.give_back.new.disks.items c.reverse-2.new.self.items ran c.finish.result trace c.finish.ensures.ended
+    ran_lawful (λ d. record { batches = g.D.Disk.batches d; faults = g.D.Disk.faults d }) scene p c.in_ok-progress.progress c.args.disks.now.items c.reverse.new.self.items c.new.new.disks.items c.give_back.new.disks.items c.reverse-2.new.self.items ran c.finish.result c.requires.limits trace c.finish.ensures.ended
 
 pub returns-clause-unforeseen : goal.returns-clause-unforeseen
 returns-clause-unforeseen g c = λ failed all.

@@ -6,7 +6,7 @@ use Rattle.lu_top.proofs.Runs.{done_of}
 use Rattle.lu_top.proofs.performing.perform.Goals as goal
 
 pub returns-in-Ok-clause-done : goal.returns-in-Ok-clause-done
-returns-in-Ok-clause-done g c = λ covered quiet calm sound.
+returns-in-Ok-clause-done g c = λ bare quiet calm sound.
     done_of _ c.args.scene.now _ c.in-Ok.played _ _ _ _ c.write.result c.write.ensures.written c.in-Ok.ensures.played calm sound
 
 pub returns-in-Err-Unforeseen-clause-outcome : goal.returns-in-Err-Unforeseen-clause-outcome
@@ -16,5 +16,5 @@ returns-in-Err-Unforeseen-clause-outcome g c =
     (sym c.tell.ensures.status) c.tell.ensures.told
 
 pub returns-in-Err-Unforeseen-clause-done : goal.returns-in-Err-Unforeseen-clause-done
-returns-in-Err-Unforeseen-clause-done g c = λ covered quiet calm sound.
-    absurd (sound (c.play.ensures.unforeseen (rw c.in-Err-Unforeseen.field-0-is at c.in-Err-Unforeseen.is) (all_foreseen c.args.scene.now covered quiet)))
+returns-in-Err-Unforeseen-clause-done g c = λ bare quiet calm sound.
+    absurd (sound (c.play.ensures.unforeseen (rw c.in-Err-Unforeseen.field-0-is at c.in-Err-Unforeseen.is) (all_foreseen c.args.scene.now bare quiet)))

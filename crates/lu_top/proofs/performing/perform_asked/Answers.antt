@@ -1,6 +1,6 @@
 use Rattle.std.proofs.Common.{sym, subst}
 use Rattle.lu_scene.specs.declared.scene.Scene.{Scene}
-use Rattle.lu_player.specs.Covered.{IsCovered, AsksNoDisk}
+use Rattle.lu_player.specs.Quiet.{IsBareScene, AsksNoDisk}
 use Rattle.lu_player.specs.Played.{SomeRose}
 use Rattle.lu_top.specs.Outcomes.{held_by, Tells}
 use Rattle.lu_top.specs.declared.status.Status.{Status}
@@ -29,10 +29,10 @@ returns-in-Ok-clause-disk_fault g c =
     c.in-Ok.scene c.in-Ok.ensures.scene c.perform.result c.perform.ensures.outcome
 
 pub returns-in-Ok-clause-done : goal.returns-in-Ok-clause-done
-returns-in-Ok-clause-done g c = λ text scene play given is covered quiet calm sound.
+returns-in-Ok-clause-done g c = λ text scene play given is bare quiet calm sound.
     let there = c.scene_of.ensures.only text scene play given is in
     let same = that_one c.scene_of.result c.in-Ok.scene scene refusal.Memory c.in-Ok.is there in
-    c.perform.ensures.done (subst IsCovered same covered) (subst AsksNoDisk same quiet) calm
+    c.perform.ensures.done (subst IsBareScene same bare) (subst AsksNoDisk same quiet) calm
     (subst (λ (s : Scene). SomeRose s (held_by g.D.Disk.batches g.D.Disk.faults c.perform.new.disks.items) → ⊥) same sound)
 
 -- ---- there is none
@@ -48,6 +48,6 @@ returns-in-Err-Bad-clause-performed g c = λ text scene play given is.
     absurd (not_bad c.scene_of.result c.in-Err-Bad.line c.in-Err-Bad.fault scene (rw c.in-Err-Bad.field-0-is at c.in-Err-Bad.is) there)
 
 pub returns-in-Err-Bad-clause-done : goal.returns-in-Err-Bad-clause-done
-returns-in-Err-Bad-clause-done g c = λ text scene play given is covered quiet calm sound.
+returns-in-Err-Bad-clause-done g c = λ text scene play given is bare quiet calm sound.
     let there = c.scene_of.ensures.only text scene play given is in
     absurd (not_bad c.scene_of.result c.in-Err-Bad.line c.in-Err-Bad.fault scene (rw c.in-Err-Bad.field-0-is at c.in-Err-Bad.is) there)

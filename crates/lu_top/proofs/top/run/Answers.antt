@@ -19,10 +19,10 @@ returns-in-Ok-Some-Perform-clause-performed g c = λ text scene says given is.
     c.perform_asked.ensures.performed text scene (one_performance (map string_bytes c.args.words.now) which.performance Play said says) given is
 
 pub returns-in-Ok-Some-Perform-clause-done : goal.returns-in-Ok-Some-Perform-clause-done
-returns-in-Ok-Some-Perform-clause-done g c = λ text scene says given is covered quiet calm sound.
+returns-in-Ok-Some-Perform-clause-done g c = λ text scene says given is bare quiet calm sound.
     let which = c.in-Ok-Some-Perform in
     let said = rw (which.field-0-is, which.field-0-0-is) at which.ensures.some in
-    c.perform_asked.ensures.done text scene (one_performance (map string_bytes c.args.words.now) which.performance Play said says) given is covered quiet calm sound
+    c.perform_asked.ensures.done text scene (one_performance (map string_bytes c.args.words.now) which.performance Play said says) given is bare quiet calm sound
 
 pub returns-in-Ok-Some-Perform-clause-written : goal.returns-in-Ok-Some-Perform-clause-written
 returns-in-Ok-Some-Perform-clause-written g c = λ done.

@@ -1,8 +1,5 @@
--- The scenarios of whose runs all laws are proved so far: clients begin calls on names, opens and closes among them, and the calls `read`,
--- `flush` and `glimpse`, messages come or are lost, time goes on, clients die, and targets are given all commands: they commit, all of it or
--- some, crash, boot, recover and close their windows, when they are told to or once every life is back. No call changes bytes, so each object
--- that a `read` or a `glimpse` asks for is empty, and so is each file that a `stat` finds. Whoever doesn't give back a lock in time, or doesn't
--- come back in a window, is evicted, and joins in a new life. Of the others six laws are proved, and they need no premise but the limits.
+-- Scenarios that change no bytes, and those in which no turn asks a disk. What every scenario comes to is lawful, where no disk fails; of one that is
+-- both more is known: no node refuses a turn.
 use Rattle.std.specs.Prelude.{◌<◌, ◌+◌, ℕ, zero, List, [], ◌∷◌, All, ◌⊎◌}
 use Rattle.lu_base.specs.declared.ids.Node.TheVariants.{Target}
 use Rattle.lu_scene.specs.declared.scene.Scene.{Scene}
@@ -24,31 +21,30 @@ abbrev pub IsMade : List SceneLine → Path → Type 0
 IsMade [] path = ⊥
 IsMade (line ∷ lines) path = Makes line path ⊎ IsMade lines path
 
--- ---- which lines are covered
+-- ---- scenarios that change no bytes
 
--- a call changes no bytes
-abbrev pub IsLineCovered : SceneLine → Type 0
-IsLineCovered (Call client slot call) = ChangesNoBytes call
-IsLineCovered Run = Unit {0}
-IsLineCovered (RunSome turns) = Unit {0}
-IsLineCovered (Deliver number) = Unit {0}
-IsLineCovered (Lose number) = Unit {0}
-IsLineCovered (Tick node) = Unit {0}
-IsLineCovered (Commit target) = Unit {0}
-IsLineCovered (CommitSome target count) = Unit {0}
-IsLineCovered (Crash target) = Unit {0}
-IsLineCovered (Boot target) = Unit {0}
-IsLineCovered (Close target) = Unit {0}
-IsLineCovered (Die client) = Unit {0}
+-- the line calls neither `write` nor `cut`
+abbrev pub IsBareLine : SceneLine → Type 0
+IsBareLine (Call client slot call) = ChangesNoBytes call
+IsBareLine Run = Unit {0}
+IsBareLine (RunSome turns) = Unit {0}
+IsBareLine (Deliver number) = Unit {0}
+IsBareLine (Lose number) = Unit {0}
+IsBareLine (Tick node) = Unit {0}
+IsBareLine (Commit target) = Unit {0}
+IsBareLine (CommitSome target count) = Unit {0}
+IsBareLine (Crash target) = Unit {0}
+IsBareLine (Boot target) = Unit {0}
+IsBareLine (Close target) = Unit {0}
+IsBareLine (Die client) = Unit {0}
 
-abbrev pub AllLinesCovered : List SceneLine → Type 0
-AllLinesCovered lines = All IsLineCovered lines
+abbrev pub AreBareLines : List SceneLine → Type 0
+AreBareLines lines = All IsBareLine lines
 
--- ---- scenarios
-
-pub record IsCovered (scene : Scene) : Type 0 where
+-- the scenario keeps the limits, and each of its lines is so
+pub record IsBareScene (scene : Scene) : Type 0 where
   pub limits : KeepsLimits scene
-  pub lines : AllLinesCovered scene.lines
+  pub lines : AreBareLines scene.lines
 
 -- ---- commands to targets
 

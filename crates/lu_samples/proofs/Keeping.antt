@@ -1,4 +1,4 @@
--- What the evidence that a scene is covered is made of: its paths, its head, its lines. And what a covered scene comes to in some steps is lawful.
+-- What the evidence that a scene keeps the limits is made of: its paths, its head, its lines. And what it comes to in some steps is lawful.
 use Rattle.std.proofs.Common.{◌≡◌, ℕ, zero, suc, ◌≤◌, Bool, true, false, List, [], ◌∷◌, refl, sym, ◌∙◌, ap, lit≤}
 use Rattle.std.specs.Prelude.{codes, ◌==◌, ◌&&◌, not, length, All}
 use Rattle.std.specs.List.{list_all}
@@ -12,9 +12,7 @@ use Rattle.lu_table.specs.Heads.{IsHead}
 use Rattle.lu_table.specs.Runs.{has_failed}
 use Rattle.lu_table.specs.Scenarios.{Config, Next, Goes, Ends, Stops, Fails, head_of, past_of, next, start, steps, Leads, here, more}
 use Rattle.lu_laws.specs.Lawful.{Lawful}
-use Rattle.lu_covered_scenes.specs.Covered.{IsCovered}
-use Rattle.lu_covered_scenes.specs.SixLaws.{SixLaws}
-use Rattle.lu_covered_scenes.proofs.Stated.{scene_keeps, scene_lawful}
+use Rattle.lu_covered_scenes.proofs.Stated.{scene_lawful}
 use Rattle.lu_table.specs.Limits.{KeepsLimits}
 use Rattle.lu_samples.proofs.Words.{with_head, after, trace_after, never}
 use Rattle.lu_samples.proofs.Glimpses.{small_head, two_head}
@@ -166,9 +164,5 @@ leads scene n = leads_on scene n (start (head_of scene.head) never scene) (here 
 
 -- ---- so it is lawful: no disk fails in it
 
-pub lawful : (scene : Scene) (n : ℕ) → IsCovered scene → has_failed (past_of (after n scene)) ≡ false → Lawful scene.head.osts (trace_after n scene)
-lawful scene n covered unfailed = scene_lawful scene covered never (after n scene) (leads scene n) unfailed
-
--- and whatever bytes it changes it keeps six laws
-pub keeps : (scene : Scene) (n : ℕ) → KeepsLimits scene → has_failed (past_of (after n scene)) ≡ false → SixLaws scene.head.osts (trace_after n scene)
-keeps scene n limits unfailed = scene_keeps scene limits never (after n scene) (leads scene n) unfailed
+pub lawful : (scene : Scene) (n : ℕ) → KeepsLimits scene → has_failed (past_of (after n scene)) ≡ false → Lawful scene.head.osts (trace_after n scene)
+lawful scene n limits unfailed = scene_lawful scene limits never (after n scene) (leads scene n) unfailed
