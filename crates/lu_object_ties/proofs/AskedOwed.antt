@@ -1,47 +1,26 @@
--- What a client owes to the answer that it heard last ends with what it is to mark; and at an object storage target it begins with a lock at
--- most, as one comes with an answer there.
-use Rattle.std.proofs.Common.{◌≡◌, ℕ, ◌<◌, Bool, true, false, List, [], ◌∷◌, ◌++◌, Option, Some, None, ◌⊎◌, inl, inr, ⊎_elim, refl, sym, subst, ap, ◌∙◌, arith}
+-- What a client owes to the answer that it heard last begins, at an object storage target, with a lock at most, as one comes with an answer there.
+use Rattle.std.proofs.Common.{◌≡◌, ℕ, ◌<◌, Bool, true, false, List, [], ◌∷◌, ◌++◌, Option, ◌⊎◌, inl, inr, ⊎_elim, refl, sym, subst, ap, ◌∙◌, arith}
 use Rattle.std.specs.Prelude.{nat_eq, if◌then◌else◌}
 use Rattle.std.proofs.lemmas.Bool.{eqb-true, eqb-false}
-use Rattle.lu_base.specs.declared.ids.Cookie.{Cookie}
 use Rattle.lu_base.specs.declared.ids.Node.{Node}
 use Rattle.lu_base.specs.declared.ids.Node.TheVariants.{Client, Target}
 use Rattle.lu_base.specs.declared.locks.Lock.{Lock}
-use Rattle.lu_base.specs.declared.locks.Policy.{Policy}
-use Rattle.lu_base.specs.declared.locks.Policy.TheVariants.{Range}
-use Rattle.lu_base.specs.declared.locks.Resource.{Resource}
 use Rattle.lu_msg.specs.declared.answers.Answer.{Answer}
 use Rattle.lu_msg.specs.declared.answers.Answer.TheVariants as answer
 use Rattle.lu_msg.specs.declared.messages.Reply.{Reply as ReplyTo}
 use Rattle.lu_msg.specs.declared.operations.Op.{Op}
 use Rattle.lu_msg.specs.declared.operations.Op.TheVariants as op
 use Rattle.lu_held.specs.declared.locks.HeldLock.{HeldLock}
-use Rattle.lu_held.specs.Locks.{named}
 use Rattle.lu_words.specs.Carried.{Flight}
 use Rattle.lu_words.specs.Words.{Entry, Heard, Hold, Learns, Acks, Fills, Zeroes, Grown as Grows, Shows, Line, line, is_client}
 use Rattle.lu_client_rows.specs.Caches.{brought, granted_lock, held_at}
-use Rattle.lu_client_rows.specs.Messages.{size_with, holds, learns, fills, shows, page_under, page_heard, held_as}
+use Rattle.lu_client_rows.specs.Messages.{size_with, holds, learns}
 use Rattle.lu_covered.specs.Heads.{Head}
 use Rattle.lu_guards.proofs.Guards.{EntryOk}
 use Rattle.lu_guards.proofs.Grown.{Grown}
-use Rattle.lu_guards.proofs.HeedMarks.{heeds_marks, marks_left, marks_of, owes, owed_of}
-use Rattle.lu_guards.proofs.Heeds.{AllHeed}
+use Rattle.lu_guards.proofs.HeedMarks.{heeds_marks, marks_left, owes, owed_of}
 use Rattle.lu_object_ties.proofs.AskedKept.{ShowsNone}
-
--- ---- marks, and what is no mark
-
-abbrev IsMark : Entry → Type 0
-IsMark (Acks resource) = Unit {0}
-IsMark (Fills resource offset bytes) = Unit {0}
-IsMark (Zeroes resource size) = Unit {0}
-IsMark (Grows resource change) = Unit {0}
-IsMark (Shows resource cookie last) = Unit {0}
-IsMark _ = ⊥
-
-abbrev IsBefore : Entry → Type 0
-IsBefore (Hold t lock marked size seen) = Unit {0}
-IsBefore (Learns t o a locks) = Unit {0}
-IsBefore _ = ⊥
+use Rattle.lu_object_ties.proofs.MarksOwed.{IsMark, AllMarks, heeds_all}
 
 abbrev Each : (Entry → Type 0) → List Entry → Type 0
 Each F [] = Unit {0}
@@ -50,104 +29,6 @@ Each F (e ∷ es) = F e × Each F es
 each_more : (F : Entry → Type 0) (es fs : List Entry) → Each F es → Each F fs → Each F (es ++ fs)
 each_more F [] fs a b = b
 each_more F (e ∷ es) fs a b = (a.0, each_more F es fs a.1 b)
-
-holds_before : (t : ℕ) (size : Option ℕ) (seen : List ℕ) (ls : List Lock) → Each IsBefore (holds t size seen ls)
-holds_before t size seen [] = tt
-holds_before t size seen (l ∷ ls) = (tt, holds_before t size seen ls)
-
-learns_before : (t : ℕ) (o : Op) (a : Answer) (ls : List Lock) → Each IsBefore (learns t o a ls)
-learns_before t o a [] = tt
-learns_before t o a (l ∷ ls) = (tt, tt)
-
-shows_marks : (resource : Resource) (cookie : Cookie) (page : ℕ) (bs : List ℕ) → Each IsMark (shows resource cookie page bs)
-shows_marks resource cookie page [] = tt
-shows_marks resource cookie page (b ∷ bs) = (tt, tt)
-
-under_marks : (resource : Resource) (cookie : Cookie) (page : ℕ) (bs : List ℕ) (p : Policy) → Each IsMark (page_under resource cookie page bs p)
-under_marks resource cookie page bs (Range extent) = each_more IsMark (shows resource cookie page bs) (fills resource page bs extent ∷ []) (shows_marks resource cookie page bs) (tt, tt)
-under_marks resource cookie page bs p = tt
-
-page_marks : (resource : Resource) (cookie : Cookie) (page : ℕ) (bs : List ℕ) (o : Option Lock) → Each IsMark (page_heard resource cookie page bs o)
-page_marks resource cookie page bs None = tt
-page_marks resource cookie page bs (Some l) = under_marks resource cookie page bs l.ask.policy
-
-all_marks : (t : ℕ) (o : Op) (a : Answer) (held : List HeldLock) → Each IsMark (heeds_marks t o a held)
-all_marks t (op.Get resource cookie page) (answer.Content bs) held = page_marks resource cookie page bs (held_as (named (record { 0 = t }) cookie) held)
-all_marks t (op.Put resource cookie at bs) answer.Done held = (tt, (tt, (tt, tt)))
-all_marks t (op.Cut resource cookie n) answer.Done held = (tt, (tt, (tt, tt)))
-all_marks t o a held = tt
-
--- ---- what is owed ends with the marks
-
-record EndsSo (owed marks : List Entry) : Type 0 where
-  before : List Entry
-  none : Each IsBefore before
-  each : Each IsMark marks
-  is : owed ≡ before ++ marks
-
-mark_not : (e : Entry) → IsMark e → IsBefore e → ⊥
-mark_not (Hold t lock marked size seen) m b = m
-mark_not (Learns t o a locks) m b = m
-mark_not e m b = b
-
--- a line that is no mark takes the first of what comes before them
-pop_before : (owed marks : List Entry) (e : Entry) → IsBefore e → ((x : Entry) (more : List Entry) → owed ≡ x ∷ more → e ≡ x) → EndsSo owed marks → EndsSo (marks_left owed) marks
-pop_before owed marks e b next s = by s.before marks s.none s.each s.is
-  where
-    by : (pre ms : List Entry) → Each IsBefore pre → Each IsMark ms → owed ≡ pre ++ ms → EndsSo (marks_left owed) ms
-    by [] [] n m q = record { before = []; none = tt; each = tt; is = ap marks_left q }
-    by [] (x ∷ ms) n m q = absurd (mark_not e (subst IsMark (sym (next x ms q)) m.0) b)
-    by (x ∷ pre) ms n m q = record { before = pre; none = n.1; each = m; is = ap marks_left q }
-
--- and a mark the first of them
-pop_mark : (owed marks : List Entry) (e : Entry) → IsMark e → ((x : Entry) (more : List Entry) → owed ≡ x ∷ more → e ≡ x) → EndsSo owed marks → EndsSo (marks_left owed) (marks_left marks)
-pop_mark owed marks e b next s = by s.before marks s.none s.each s.is
-  where
-    by : (pre ms : List Entry) → Each IsBefore pre → Each IsMark ms → owed ≡ pre ++ ms → EndsSo (marks_left owed) (marks_left ms)
-    by [] [] n m q = record { before = []; none = tt; each = tt; is = ap marks_left q }
-    by [] (x ∷ ms) n m q = record { before = []; none = tt; each = m.1; is = ap marks_left q }
-    by (x ∷ pre) ms n m q = absurd (mark_not e b (subst IsBefore (sym (next x (pre ++ ms) q)) n.0))
-
-ends_line : (c : ℕ) (l : Line) (past : List Line) → ((x : Entry) (more : List Entry) → owed_of c past ≡ x ∷ more → l.entry ≡ x) → EndsSo (owed_of c past) (marks_of c past) → EndsSo (owed_of c (l ∷ past)) (marks_of c (l ∷ past))
-ends_line c l past now S = by l.entry now
-  where
-    either : (b : Bool) (x y : List Entry) → EndsSo x y → EndsSo (if b then x else owed_of c past) (if b then y else marks_of c past)
-    either true x y s = s
-    either false x y s = S
-
-    first : (b : Bool) (x : List Entry) → EndsSo x (marks_of c past) → EndsSo (if b then x else owed_of c past) (marks_of c past)
-    first true x s = s
-    first false x s = S
-
-    by : (e : Entry) → ((x : Entry) (more : List Entry) → owed_of c past ≡ x ∷ more → e ≡ x) → EndsSo (owed_of c (line l.at e ∷ past)) (marks_of c (line l.at e ∷ past))
-    by (Heard t f r) next =
-        either (is_client c l.at.node) (owes t f r (held_at c past)) (heeds_marks t f.op r.answer (held_at c past))
-        (record {
-          before = holds t (size_with r.answer) r.seen (brought f.op r) ++ learns t f.op r.answer r.locks;
-          none = each_more IsBefore (holds t (size_with r.answer) r.seen (brought f.op r)) (learns t f.op r.answer r.locks) (holds_before t (size_with r.answer) r.seen (brought f.op r)) (learns_before t f.op r.answer r.locks);
-          each = all_marks t f.op r.answer (held_at c past);
-          is = refl;
-        })
-    by (Hold t lock marked size seen) next = first (is_client c l.at.node) (marks_left (owed_of c past)) (pop_before (owed_of c past) (marks_of c past) (Hold t lock marked size seen) tt next S)
-    by (Learns t o a locks) next = first (is_client c l.at.node) (marks_left (owed_of c past)) (pop_before (owed_of c past) (marks_of c past) (Learns t o a locks) tt next S)
-    by (Acks resource) next = either (is_client c l.at.node) (marks_left (owed_of c past)) (marks_left (marks_of c past)) (pop_mark (owed_of c past) (marks_of c past) (Acks resource) tt next S)
-    by (Fills resource offset bytes) next = either (is_client c l.at.node) (marks_left (owed_of c past)) (marks_left (marks_of c past)) (pop_mark (owed_of c past) (marks_of c past) (Fills resource offset bytes) tt next S)
-    by (Zeroes resource size) next = either (is_client c l.at.node) (marks_left (owed_of c past)) (marks_left (marks_of c past)) (pop_mark (owed_of c past) (marks_of c past) (Zeroes resource size) tt next S)
-    by (Grows resource change) next = either (is_client c l.at.node) (marks_left (owed_of c past)) (marks_left (marks_of c past)) (pop_mark (owed_of c past) (marks_of c past) (Grows resource change) tt next S)
-    by (Shows resource cookie last) next = either (is_client c l.at.node) (marks_left (owed_of c past)) (marks_left (marks_of c past)) (pop_mark (owed_of c past) (marks_of c past) (Shows resource cookie last) tt next S)
-    by _ next = S
-
-ends_so : (c : ℕ) (past : List Line) → AllHeed past → EndsSo (owed_of c past) (marks_of c past)
-ends_so c [] all = record { before = []; none = tt; each = tt; is = refl }
-ends_so c (l ∷ past) all = ends_line c l past (λ x more q. (all.0 c x more q).1) (ends_so c past all.1)
-
--- so where something is to be marked, something is owed
-pub marks_owed : (c : ℕ) (past : List Line) → AllHeed past → (e : Entry) (more : List Entry) → marks_of c past ≡ e ∷ more → owed_of c past ≡ [] → ⊥
-marks_owed c past all e more m none = by (ends_so c past all).before (sym none ∙ (ends_so c past all).is ∙ ap (λ (ms : List Entry). (ends_so c past all).before ++ ms) m)
-  where
-    by : (pre : List Entry) → [] ≡ pre ++ e ∷ more → ⊥
-    by [] q = absurd (cc)
-    by (x ∷ pre) q = absurd (cc)
 
 -- ---- one lock at most comes from an object storage target
 
@@ -167,7 +48,7 @@ rest_left : (t : ℕ) (es : List Entry) → RestOther t es → RestOther t (mark
 rest_left t [] a = tt
 rest_left t (e ∷ es) a = rest_of t es a
 
-mark_other : (t : ℕ) (es : List Entry) → Each IsMark es → Each (ShowsOther t) es
+mark_other : (t : ℕ) (es : List Entry) → AllMarks es → Each (ShowsOther t) es
 mark_other t [] a = tt
 mark_other t (e ∷ es) a = (one e a.0, mark_other t es a.1)
   where
@@ -194,7 +75,7 @@ shows_no t (e ∷ es) a lock marked size seen more q = let same : e ≡ Hold t l
 
 after_locks : (t u : ℕ) (f : Flight) (r : ReplyTo) (held : List HeldLock) → Each (ShowsOther t) (learns u f.op r.answer r.locks ++ heeds_marks u f.op r.answer held)
 after_locks t u f r held =
-    each_more (ShowsOther t) (learns u f.op r.answer r.locks) (heeds_marks u f.op r.answer held) (learns_other t u f.op r.answer r.locks) (mark_other t (heeds_marks u f.op r.answer held) (all_marks u f.op r.answer held))
+    each_more (ShowsOther t) (learns u f.op r.answer r.locks) (heeds_marks u f.op r.answer held) (learns_other t u f.op r.answer r.locks) (mark_other t (heeds_marks u f.op r.answer held) (heeds_all u f.op r.answer held))
 
 -- what is owed to an answer of another target
 owes_other : (t u : ℕ) (f : Flight) (r : ReplyTo) (held : List HeldLock) → (u ≡ t → ⊥) → Each (ShowsOther t) (owes u f r held)
@@ -202,7 +83,7 @@ owes_other t u f r held other =
     let shown = holds u (size_with r.answer) r.seen (brought f.op r) in
     each_more (ShowsOther t) (shown ++ learns u f.op r.answer r.locks) (heeds_marks u f.op r.answer held)
     (each_more (ShowsOther t) shown (learns u f.op r.answer r.locks) (holds_other t u (size_with r.answer) r.seen (brought f.op r) other) (learns_other t u f.op r.answer r.locks))
-    (mark_other t (heeds_marks u f.op r.answer held) (all_marks u f.op r.answer held))
+    (mark_other t (heeds_marks u f.op r.answer held) (heeds_all u f.op r.answer held))
 
 pub owes_else : (t u : ℕ) (f : Flight) (r : ReplyTo) (held : List HeldLock) → (u ≡ t → ⊥) → ShowsNone t (owes u f r held)
 owes_else t u f r held other = shows_no t (owes u f r held) (owes_other t u f r held other)

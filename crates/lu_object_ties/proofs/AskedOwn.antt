@@ -44,7 +44,8 @@ use Rattle.lu_object_ties.proofs.AskedFolds.{only_stays, queue_stays, flights_st
 use Rattle.lu_object_ties.proofs.AskedKept.{ShowsNone, SameLocks, flights_kept, LocksStay, stays_locks, locks_kept, awaits_kept, backs_kept}
 use Rattle.lu_object_ties.proofs.AskedSteps.{given_grows}
 use Rattle.lu_object_ties.proofs.AskedOther.{brought_before, gave_before, gone_only, own_life}
-use Rattle.lu_object_ties.proofs.AskedOwed.{marks_owed, left_none}
+use Rattle.lu_object_ties.proofs.AskedOwed.{left_none}
+use Rattle.lu_object_ties.proofs.MarksOwed.{marks_owed}
 use Rattle.lu_object_ties.proofs.AskedPatch.{changed_flight}
 use Rattle.lu_object_ties.proofs.AskedLocks.{KeepsLocks, locks_there, locks_back}
 

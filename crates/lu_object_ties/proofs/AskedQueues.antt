@@ -48,7 +48,7 @@ use Rattle.lu_object_ties.proofs.Tied.{Here}
 use Rattle.lu_object_ties.proofs.TiedAsked.{is_back, queued_backs, flying_backs, backs_of, HasBytes, JustTaken, TookUnder, BacksAs, AskedOf, AskedBy}
 use Rattle.lu_object_ties.proofs.AskedFolds.{only_stays, flights_stay, stays_same}
 use Rattle.lu_object_ties.proofs.AskedKept.{backs_kept}
-use Rattle.lu_object_ties.proofs.AskedSteps.{live_parts}
+use Rattle.lu_object_ties.proofs.OverLives.{live_parts}
 use Rattle.lu_object_ties.proofs.AskedBacks.{queued_other, queued_one}
 use Rattle.lu_object_ties.proofs.AskedOther.{own_life}
 use Rattle.lu_object_ties.proofs.AskedOwn.{asked_plain}

@@ -208,12 +208,3 @@ live_before c l past h k same g live = by (evicted (life_number c past) h) refl 
         no true y = absurd (cc)
         no false y = absurd (cc)
     by false e false f = refl
-
--- a live life wasn't evicted, and didn't hear that it was
-pub live_parts : (c : ℕ) (past : List Line) (h : List Entry) → is_live c past h ≡ true → (evicted (life_number c past) h ≡ false) × (is_over c (life_at c past) past ≡ false)
-live_parts c past h live = by (evicted (life_number c past) h) (is_over c (life_at c past) past) live
-  where
-    by : (a b : Bool) → not (a || b) ≡ true → (a ≡ false) × (b ≡ false)
-    by false false e = (refl, refl)
-    by false true e = absurd (cc)
-    by true b e = absurd (cc)

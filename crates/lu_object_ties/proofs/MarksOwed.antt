@@ -20,7 +20,7 @@ use Rattle.lu_client_rows.specs.Messages.{size_with, holds, learns, held_as, pag
 use Rattle.lu_guards.proofs.HeedMarks.{heeds_marks, marks_left, marks_of, owes, owed_of}
 use Rattle.lu_guards.proofs.Heeds.{HeedsNext, AllHeed}
 
-abbrev IsMark : Entry → Type 0
+abbrev pub IsMark : Entry → Type 0
 IsMark (Acks resource) = Unit {0}
 IsMark (Fills resource offset bytes) = Unit {0}
 IsMark (Zeroes resource size) = Unit {0}
@@ -28,7 +28,7 @@ IsMark (Grown resource change) = Unit {0}
 IsMark (Shows resource cookie last) = Unit {0}
 IsMark _ = ⊥
 
-abbrev AllMarks : List Entry → Type 0
+abbrev pub AllMarks : List Entry → Type 0
 AllMarks [] = Unit {0}
 AllMarks (e ∷ es) = IsMark e × AllMarks es
 
@@ -74,7 +74,7 @@ page_marks : (resource : Resource) (cookie : Cookie) (page : ℕ) (bs : List ℕ
 page_marks resource cookie page bs None = tt
 page_marks resource cookie page bs (Some l) = under_marks resource cookie page bs l.ask.policy
 
-heeds_all : (t : ℕ) (o : Op) (a : Answer) (held : List HeldLock) → AllMarks (heeds_marks t o a held)
+pub heeds_all : (t : ℕ) (o : Op) (a : Answer) (held : List HeldLock) → AllMarks (heeds_marks t o a held)
 heeds_all t (op.Get resource cookie page) (answer.Content bs) held = page_marks resource cookie page bs (held_as (named (record { 0 = t }) cookie) held)
 heeds_all t (op.Put resource cookie at bs) answer.Done held = (tt, (tt, (tt, tt)))
 heeds_all t (op.Cut resource cookie n) answer.Done held = (tt, (tt, (tt, tt)))
@@ -159,3 +159,7 @@ none_marked c past heeds none = by (marks_last c past heeds).before (marks_of c 
     by : (bs ms : List Entry) → [] ≡ bs ++ ms → ms ≡ []
     by [] ms e = sym e
     by (b ∷ bs) ms e = absurd (cc)
+
+-- and where something is to be marked, something is owed
+pub marks_owed : (c : ℕ) (past : List Line) → AllHeed past → (e : Entry) (more : List Entry) → marks_of c past ≡ e ∷ more → owed_of c past ≡ [] → ⊥
+marks_owed c past heeds e more m none = let z : [] ≡ e ∷ more = sym (none_marked c past heeds none) ∙ m in cc

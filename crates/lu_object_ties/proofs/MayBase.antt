@@ -37,7 +37,7 @@ use Rattle.lu_object_map.specs.Stories.{with_entry, of_life, of_life_at, story}
 use Rattle.lu_object_ties.proofs.Tied.{Here, Grows}
 use Rattle.lu_object_ties.proofs.TiedStore.{life_number}
 use Rattle.lu_object_ties.proofs.TiedAsked.{AskedBy, IsOwed}
-use Rattle.lu_object_ties.proofs.AskedSteps.{live_parts}
+use Rattle.lu_object_ties.proofs.OverLives.{live_parts}
 use Rattle.lu_object_ties.proofs.AskedOwn.{NotHold, shows_none}
 
 -- ---- a line of a live life gives an entry

@@ -75,7 +75,7 @@ use Rattle.lu_object_ties.proofs.TiedStore.{store_owed}
 use Rattle.lu_object_ties.proofs.TiedAsked.{IsOn, FlownAs, TakenAs, AskedBy}
 use Rattle.lu_object_ties.proofs.AskedHolds.{same_cookie}
 use Rattle.lu_object_ties.proofs.AskedOther.{own_life}
-use Rattle.lu_object_ties.proofs.AskedSteps.{live_parts}
+use Rattle.lu_object_ties.proofs.OverLives.{live_parts}
 use Rattle.lu_object_ties.proofs.MayBase.{tie, held_there}
 use Rattle.lu_object_ties.proofs.MayTake.{covers_out, cut_held}
 

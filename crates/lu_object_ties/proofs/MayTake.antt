@@ -43,7 +43,7 @@ use Rattle.lu_object_ties.proofs.StoreTakes.{Taking, takes_found}
 use Rattle.lu_object_ties.proofs.Tied.{Here}
 use Rattle.lu_object_ties.proofs.TiedStore.{store_owed}
 use Rattle.lu_object_ties.proofs.TiedAsked.{TakenAs}
-use Rattle.lu_object_ties.proofs.AskedSteps.{live_parts}
+use Rattle.lu_object_ties.proofs.OverLives.{live_parts}
 use Rattle.lu_object_ties.proofs.MayBase.{tie}
 
 -- ---- a held lock that meets the pending cut holds it whole
