@@ -1,7 +1,7 @@
 -- Which runs the theorem covers: those in which no disk fails. What a call on bytes looks for and asks of objects is asked of object
 -- storage targets alone. Targets may crash, boot, recover and close their recovery windows. Whatever messages are lost, repeated or
--- late, whoever dies, whoever waits for a lock, whatever is committed, and whoever is evicted and joins in a new life, is covered.
--- And which of these change no bytes: of those alone all laws are proved so far.
+-- late, whoever dies, whoever waits for a lock, whatever is committed, and whoever is evicted and joins in a new life, is covered:
+-- of all these all laws are proved. And which of these change no bytes: of those it is known that no node refuses a turn.
 use Rattle.std.specs.Prelude.{◌≡◌, ◌⊎◌, ◌<◌, List, [], ◌∷◌}
 use Rattle.lu_msg.specs.declared.calls.Call.{Call}
 use Rattle.lu_msg.specs.declared.calls.Call.TheVariants as call

@@ -1,4 +1,4 @@
--- A target that recovers, in a covered scenario: it boots, keeps what lives that come back tell it, and closes its window. All lines of these
+-- A target that recovers, in the run of a scenario: it boots, keeps what lives that come back tell it, and closes its window. All lines of these
 -- rows are such as may follow a boot (`IsBack`), so they are covered. They stand where a turn may ask a disk.
 use Rattle.std.proofs.Common.{◌≡◌, ℕ, ◌+◌, Bool, List, [], ◌∷◌, ◌++◌, Option, Some, None, refl}
 use Rattle.std.specs.Prelude.{nat_eq, nat_lt, not, ◌&&◌, if◌then◌else◌}

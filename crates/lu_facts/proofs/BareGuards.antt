@@ -1,5 +1,5 @@
 -- What a line rests on in a run that changes no bytes (`AllBare`): as the guards say it, but that there is no more to it. Each object is empty, all locks
--- are for reading and granted at once, and no page is fetched and no change written back. The laws that are proved of such runs alone rest on these.
+-- are for reading and granted at once, and no page is fetched and no change written back. That no node refuses a turn of such a run rests on these.
 use Rattle.std.proofs.Common.{◌≡◌, ℕ, suc, ◌+◌, ◌<◌, ◌≤◌, true, false, List, [], ◌∷◌, ◌++◌, Option, Some, None, ◌⊎◌, inl, inr}
 use Rattle.std.specs.Prelude.{length, drop, replicate}
 use Rattle.lu_base.specs.declared.ids.At.{At}

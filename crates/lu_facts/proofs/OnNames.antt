@@ -15,7 +15,7 @@ use Rattle.lu_words.specs.Carried.{HandleFile}
 use Rattle.lu_covered.specs.Calls.{operation_of, told_as}
 use Rattle.lu_guards.proofs.ClientLines.{IsNames}
 
--- the operations that calls become so far
+-- the operations that calls on names become
 abbrev pub IsOnNames : Op → Type 0
 IsOnNames (op.Lookup path) = Unit {0}
 IsOnNames (op.Stat path) = Unit {0}
