@@ -3,12 +3,12 @@
 
 For each scenario, with its trace in NAME.trace beside it, and for each of its clients (or the one that is named), a claim
 says that the events of that client (calls, messages with what they say, ticks, its death), played on the definitions of
-lu_client_rows, print exactly the client's lines of the trace, turn by turn. Each is proved by computing: `refl`. A claim has
+lu_spec_client, print exactly the client's lines of the trace, turn by turn. Each is proved by computing: `refl`. A claim has
 the name of its scenario and client; the comment lines at the head of the scenario stand above it.
 
 `--most N` passes over claims of more than N turns. With `--agree` each claim says instead that the fields over the client's
 past say what its own entries made of it. `--about` gives the comment at the head of the file. Scenarios with words that the
-script doesn't read are counted, with the reason. The words of the claims are those of lu_client_stories, Short."""
+script doesn't read are counted, with the reason. The words of the claims are those of lu_proof_examples, `proofs/Clients/Words.antt`."""
 import os
 import re
 import sys
@@ -16,7 +16,7 @@ import traces
 
 
 class Words(traces.Terms):
-    """the words of lu_client_stories, Short"""
+    """the words of lu_proof_examples, `proofs/Clients/Words.antt`"""
     pair, txn_word, onward = "pair", "txn", "extent {} the_end"
     on_inode = "on_inode {life} {cookie} {fid} {bits}"
     client_turn, target_turn = "(client {stamp} {place})", "(target {stamp} {place})"
@@ -120,8 +120,8 @@ Rattle.lu_msg.specs.declared.calls.Call.TheVariants as call
 Rattle.lu_msg.specs.declared.messages.Message.TheVariants as message
 Rattle.lu_msg.specs.declared.operations.Op.TheVariants as op
 Rattle.lu_trace.specs.declared.entries.Entry.TheVariants as entry
-Rattle.lu_client_rows.specs.Played played Agrees
-Rattle.lu_client_stories.specs.Short {SHORT}"""
+Rattle.lu_spec_client.specs.Played played Agrees
+Rattle.lu_proof_examples.proofs.Clients.Words {SHORT}"""
 
 SIGNS = {"◌≡◌": "≡", "◌∷◌": "∷", "[]": "[]"}
 

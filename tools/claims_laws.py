@@ -5,7 +5,7 @@
 
 Without `--laws` a claim says that the trace is lawful by all laws; with it there is one claim for each law that is named
 (`Messages`, `Locks` ..). The lines of a trace stand as a past, the newest first. The proof file is written to standard output; it stands
-on the words of `lu_laws`, `proofs/Words.antt`, and on the deciders in `proofs/Decides/`. The text of `--about` is its comment, and the
+on the words of `lu_spec_laws`, `proofs/Words.antt`, and on the deciders in `proofs/Decides/`. The text of `--about` is its comment, and the
 comment lines at the head of NAME.scene, where one stands beside, are that of the trace. A trace with words that aren't read is passed
 over; standard error says which, and why."""
 import os
@@ -20,9 +20,9 @@ PARAMETERS = {"Messages": "", "Locks": "osts", "Silent": "", "Acts": "whole", "R
 STRIPING = "stripe_of offset_of position_of below_of greatest_end"
 
 MORE = "\n".join(
-    ["Rattle.lu_laws.specs.Holds Holds", "Rattle.lu_laws.specs.Lawful Lawful", "Rattle.lu_laws.proofs.Decides says_yes holds",
-     "Rattle.lu_laws.proofs.Decides.Lawful decide_lawful", "Rattle.lu_layout.specs.Raid0 " + STRIPING]
-    + [f"Rattle.lu_laws.specs.Laws.{law} {law}\nRattle.lu_laws.proofs.Decides.{law} decide_{law.lower()}" for law in PARAMETERS])
+    ["Rattle.lu_spec_laws.specs.Holds Holds", "Rattle.lu_spec_laws.specs.Lawful Lawful", "Rattle.lu_spec_laws.proofs.Decides says_yes holds",
+     "Rattle.lu_spec_laws.proofs.Decides.Lawful decide_lawful", "Rattle.lu_layout.specs.Raid0 " + STRIPING]
+    + [f"Rattle.lu_spec_laws.specs.Laws.{law} {law}\nRattle.lu_spec_laws.proofs.Decides.{law} decide_{law.lower()}" for law in PARAMETERS])
 
 
 def title_of(file):

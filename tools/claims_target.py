@@ -1,11 +1,11 @@
 #!/usr/bin/env python3
-"""Turns of targets, as a trace shows them, written as claims on the rows of `lu_target_rows`.
+"""Turns of targets, as a trace shows them, written as claims on the rows of `lu_spec_target`.
 
     tools/claims_target.py [--most N] [--least N] [--only tT] NAME.scene ..
 
 Of each NAME.scene, with NAME.trace beside it, each target's events and printed lines become one claim, that the rows give
 these lines; it is proved by computing (`refl`). The proof file is written to standard output; it stands on the words of
-`lu_target_stories` (`proofs/Words.antt`). A comment in a scenario's first lines (`# ..`) is put before its claims. Claims
+`lu_proof_examples` (`proofs/Targets/Words.antt`). A comment in a scenario's first lines (`# ..`) is put before its claims. Claims
 of more turns than `--most`, or fewer than `--least`, are left out. A trace with entries that the rows don't have is passed
 over; standard error says how many were, and why."""
 import os
@@ -24,16 +24,16 @@ use Rattle.lu_msg.specs.declared.answers.Errno.TheVariants as errno
 use Rattle.lu_msg.specs.declared.messages.Message.TheVariants as message
 use Rattle.lu_msg.specs.declared.operations.Op.TheVariants as op
 use Rattle.lu_trace.specs.declared.entries.Entry.TheVariants as entry
-use Rattle.lu_target_rows.specs.Rows.{Ticks, Commits, Crashes, Boots, Closes}
-use Rattle.lu_target_stories.proofs.Words.{pair, fid, txn, cookie, life, client_turn, target_turn, object, from, onward, layout, lock, bits}
-use Rattle.lu_target_stories.proofs.Words.{request, replay, lock_again, size, reply, grant, ask, send, act, transaction, comes, Turn, made}
-use Rattle.lu_target_stories.proofs.Words.{all_lines, played}
+use Rattle.lu_spec_target.specs.Rows.{Ticks, Commits, Crashes, Boots, Closes}
+use Rattle.lu_proof_examples.proofs.Targets.Words.{pair, fid, txn, cookie, life, client_turn, target_turn, object, from, onward, layout, lock, bits}
+use Rattle.lu_proof_examples.proofs.Targets.Words.{request, replay, lock_again, size, reply, grant, ask, send, act, transaction, comes, Turn, made}
+use Rattle.lu_proof_examples.proofs.Targets.Words.{all_lines, played}
 """
 
 
 
 class Words(traces.Terms):
-    """the words of `lu_target_stories`, `proofs/Words.antt`"""
+    """the words of `lu_proof_examples`, `proofs/Targets/Words.antt`"""
     pair, txn_word, extent_word, striped = "pair", "txn", "from {} {}", "layout"
     on_inode = "bits {cookie} {life} {fid} {bits}"
     client_turn, target_turn = "(client_turn {place} {stamp})", "(target_turn {place} {stamp})"

@@ -1,4 +1,4 @@
-"""Trace texts as terms of antt. `Terms` writes them in the short words of lu_laws, `proofs/Words.antt`; another proof crate's words are
+"""Trace texts as terms of antt. `Terms` writes them in the short words of lu_spec_laws, `proofs/Words.antt`; another proof crate's words are
 a class of their own over it.
 
 A word of a trace that isn't read raises ValueError, KeyError or IndexError."""
@@ -352,10 +352,10 @@ Rattle.lu_msg.specs.declared.calls.Call.TheVariants as call
 Rattle.lu_msg.specs.declared.messages.Message.TheVariants as message
 Rattle.lu_msg.specs.declared.operations.Op.TheVariants as op
 Rattle.lu_trace.specs.declared.entries.Entry.TheVariants as entry
-Rattle.lu_laws.specs.Words.Pasts Past
-Rattle.lu_laws.proofs.Words turn client target life number fid txn_of cookie extent onward object striped lock
-Rattle.lu_laws.proofs.Words asks replays hands_in reports replies grants glimpses
-Rattle.lu_laws.proofs.Words sends heard hold drop peek acts executes"""
+Rattle.lu_spec_laws.specs.Words.Pasts Past
+Rattle.lu_spec_laws.proofs.Words turn client target life number fid txn_of cookie extent onward object striped lock
+Rattle.lu_spec_laws.proofs.Words asks replays hands_in reports replies grants glimpses
+Rattle.lu_spec_laws.proofs.Words sends heard hold drop peek acts executes"""
 
 SIGNS = {"◌≡◌": "≡", "◌∷◌": "∷", "[]": "[]"}
 

@@ -1,5 +1,6 @@
 -- Facts on hexadecimal text.
-use Rattle.std.proofs.Common.{◌≡◌, ℕ, zero, suc, ◌+◌, ◌-◌, ◌/◌, ◌<◌, List, [], ◌∷◌, ◌++◌, length, take, drop, get_or, refl, ap, sym, ◌∙◌, append_assoc, add-one, arith, Result, Ok, Err, Some, decimal, lit<, slice_index}
+use Rattle.std.proofs.Common.{◌≡◌, ℕ, zero, suc, ◌+◌, ◌-◌, ◌/◌, ◌<◌, List, [], ◌∷◌, ◌++◌, length, take, drop, get_or, refl, ap, sym, ◌∙◌}
+use Rattle.std.proofs.Common.{append_assoc, add-one, arith, Result, Ok, Err, Some, decimal, lit<, slice_index}
 use Rattle.std.proofs.lemmas.List.{take_all}
 use Rattle.std.specs.Prelude.{MatchResult}
 use Rattle.std.proofs.Math.Seq.{take-suc, take-append_seam}
@@ -32,7 +33,8 @@ IsBytes-one byte fits zero = fits
 IsBytes-one byte fits (suc k) = lit< tt
 
 -- what decoding the digits of bytes writes, into room for as many
-pub decodes : (text bytes out : List ℕ) (n : ℕ) (r : Result (Unit {0}) FromHexError) → length bytes ≡ n → IsBytes bytes → text ≡ encode_lower bytes
+pub decodes : (text bytes out : List ℕ) (n : ℕ) (r : Result (Unit {0}) FromHexError) → length bytes ≡ n → IsBytes bytes → text
+    ≡ encode_lower bytes
     → MatchResult (decode_sized text n) (λ read. (r ≡ Ok tt) × (out ≡ read)) (λ e. r ≡ Err e)
     → (r ≡ Ok tt) × (out ≡ bytes)
 decodes text bytes out n r same fits is written =
@@ -46,7 +48,8 @@ half_of text bytes is = let twice = ap length is ∙ length-encode_with lower_di
 -- no bytes have no digits
 pub none_of : (text bytes : List ℕ) → text ≡ encode_lower bytes → length text / 2 ≡ 0 → bytes ≡ []
 none_of text [] is none = refl
-none_of text (byte ∷ more) is none = let twice = ap length is ∙ length-encode_with lower_digits (byte ∷ more) in absurd (omega (arith, twice))
+none_of text (byte ∷ more) is none = let twice = ap length is ∙ length-encode_with lower_digits (byte ∷ more)
+    in absurd (omega (arith, twice))
 
 -- the two parts of a repeated byte's text, as the ranges up to 2 and from 3 on
 pub parts_of : (text : List ℕ) (byte count : ℕ) → text ≡ repeated_text byte count

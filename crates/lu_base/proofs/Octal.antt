@@ -1,5 +1,6 @@
 -- The octal digits of a number, from its first digits and its last one.
-use Rattle.std.proofs.Common.{◌≡◌, ℕ, zero, suc, ◌+◌, ◌/◌, ◌%◌, ◌<◌, ◌≤◌, ◌^◌, false, List, [], ◌∷◌, ◌++◌, refl, ap, sym, ◌∙◌, append_assoc, arith, eq-eqb, ne_eqb, cond, lt-ltb, inl, inr}
+use Rattle.std.proofs.Common.{◌≡◌, ℕ, zero, suc, ◌+◌, ◌/◌, ◌%◌, ◌<◌, ◌≤◌, ◌^◌, false, List, [], ◌∷◌, ◌++◌, refl, ap, sym, ◌∙◌, append_assoc}
+use Rattle.std.proofs.Common.{arith, eq-eqb, ne_eqb, cond, lt-ltb, inl, inr}
 use Rattle.std.proofs.lemmas.Bool.{cases_lt}
 use Rattle.std.specs.Fmt.{digits, digits_onto, digit_glyph}
 
@@ -32,7 +33,8 @@ spell_enough zero k n acc p q = spell_last zero n acc (omega arith) ∙ sym (spe
 spell_enough (suc j) zero n acc p q = spell_last (suc j) n acc (omega arith) ∙ sym (spell_last zero n acc (omega arith))
 spell_enough (suc j) (suc k) n acc p q = elim (cases_lt n 8) [
   | inl l ↦ spell_last (suc j) n acc l ∙ sym (spell_last (suc k) n acc l)
-  | inr l ↦ spell_next (suc j) n acc l ∙ spell_enough j k (n / 8) (glyph n ∷ acc) (omega arith) (omega arith) ∙ sym (spell_next (suc k) n acc l)
+  | inr l ↦ spell_next (suc j) n acc l ∙ spell_enough j k (n / 8) (glyph n ∷ acc) (omega arith) (omega arith)
+      ∙ sym (spell_next (suc k) n acc l)
 ]
 
 -- a number of one digit
@@ -44,5 +46,6 @@ octal_digit n small = spell_last 63 n [] small ∙ ap (λ x. x ∷ []) (glyph_is
 pub octal_step : (n : ℕ) → 8 ≤ n → n < 2 ^ 16 → digits 8 false n ≡ digits 8 false (n / 8) ++ ((48 + n % 8) ∷ [])
 unfolding digits
 octal_step n large small =
-    spell_next 63 n [] large ∙ spell_enough 62 63 (n / 8) (glyph n ∷ []) (omega arith) (omega arith) ∙ spell-append 64 (n / 8) (glyph n ∷ [])
+    spell_next 63 n [] large ∙ spell_enough 62 63 (n / 8) (glyph n ∷ []) (omega arith) (omega arith)
+    ∙ spell-append 64 (n / 8) (glyph n ∷ [])
     ∙ ap (λ x. spell 64 (n / 8) [] ++ (x ∷ [])) (glyph_is (n % 8) (omega arith))

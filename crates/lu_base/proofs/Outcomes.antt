@@ -1,5 +1,6 @@
 -- Facts on what a reader answered, and on lists.
-use Rattle.std.proofs.Common.{◌≡◌, ◌≢◌, ◌==◌, ◌<◌, ℕ, false, List, [], length, map, Option, Some, None, Result, Ok, Err, sym, ap, ◌∙◌, subst, true≢false}
+use Rattle.std.proofs.Common.{◌≡◌, ◌≢◌, ◌==◌, ◌<◌, ℕ, false, List, [], length, map, Option, Some, None, Result, Ok, Err, sym, ap, ◌∙◌}
+use Rattle.std.proofs.Common.{subst, true≢false}
 use Rattle.std.specs.Prelude.{IfOk, IfNone, IfSome}
 use Rattle.std.specs.List.{All}
 use Rattle.std.proofs.lemmas.List.{length-map, get_or-map}
@@ -11,7 +12,8 @@ none_weaker (Ok (Some x)) weaker none = tt
 none_weaker (Err e) weaker none = tt
 
 -- where something was read, what is known of it may be said otherwise
-pub some_weaker : {A E : Type 0} {P Q : A → Type 0} (r : Result (Option A) E) → ((x : A) → P x → Q x) → IfOk r (λ read. IfSome read P) → IfOk r (λ read. IfSome read Q)
+pub some_weaker : {A E : Type 0} {P Q : A → Type 0} (r : Result (Option A) E) → ((x : A) → P x → Q x) → IfOk r (λ read. IfSome read P)
+    → IfOk r (λ read. IfSome read Q)
 some_weaker (Ok None) weaker some = tt
 some_weaker (Ok (Some x)) weaker some = weaker x some
 some_weaker (Err e) weaker some = tt

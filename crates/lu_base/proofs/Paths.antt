@@ -1,5 +1,6 @@
 -- Facts on the text of a path.
-use Rattle.std.proofs.Common.{◌≡◌, ◌≢◌, ℕ, ◌+◌, ◌<◌, ◌≤◌, ◌==◌, true, false, List, [], ◌∷◌, ◌++◌, length, take, drop, get_or, subst, refl, ap, sym, ◌∙◌, append_assoc, append-nil, add-one, arith}
+use Rattle.std.proofs.Common.{◌≡◌, ◌≢◌, ℕ, ◌+◌, ◌<◌, ◌≤◌, ◌==◌, true, false, List, [], ◌∷◌, ◌++◌, length, take, drop, get_or, subst, refl}
+use Rattle.std.proofs.Common.{ap, sym, ◌∙◌, append_assoc, append-nil, add-one, arith}
 use Rattle.std.proofs.Math.Seq.{take-suc}
 use Rattle.std.proofs.lemmas.Bool.Decides.{nat_tests}
 use Rattle.std.specs.List.{slice_split, join_with_byte, All}
@@ -42,7 +43,8 @@ no_slash name is = All-weaker (λ byte. is_name_byte byte ≡ true) (λ byte. (b
     other byte may = grind (arith, nat_tests)
 
 -- names that were joined are the parts of their text
-pub split_of-joined : (names : List (List ℕ)) → names ≢ [] → All IsName names → slice_split (λ byte. byte == 47) (join_with_byte 47 names) ≡ names
+pub split_of-joined : (names : List (List ℕ)) → names ≢ [] → All IsName names → slice_split (λ byte. byte == 47) (join_with_byte 47 names)
+    ≡ names
 split_of-joined [] some are = absurd (some refl)
 split_of-joined (x ∷ []) some are = slice_split_none (λ byte. byte == 47) x (no_slash x (All-head IsName x [] are))
 split_of-joined (x ∷ y ∷ more) some are =
@@ -53,7 +55,8 @@ split_of-joined (x ∷ y ∷ more) some are =
 pub path_of-parts : (text rest : List ℕ) (names : List (List ℕ)) → text ≡ 47 ∷ rest → length text ≤ 1024
     → (names ≡ slice_split (λ byte. byte == 47) rest) × AreNames names → IsPath names × (text ≡ path_text names)
 path_of-parts text rest names is short (parts, are) =
-    let same : text ≡ path_text names = is ∙ ap (λ w. 47 ∷ w) (sym (join_with_byte-slice_split 47 rest) ∙ ap (join_with_byte 47) (sym parts)) in
+    let same : text ≡ path_text names = is ∙ ap (λ w. 47 ∷ w) (sym (join_with_byte-slice_split 47 rest)
+    ∙ ap (join_with_byte 47) (sym parts)) in
     (record { are_names = are; bytes = omega (arith, short, ap length same) }, same)
 
 -- where the parts are no names, the text is no path
@@ -62,7 +65,8 @@ pub no_path-parts : (text rest : List ℕ) → text ≡ 47 ∷ rest → rest ≢
 no_path-parts text rest is some not_names path is_path same =
     let joined : rest ≡ join_with_byte 47 path = ap (drop 1) (sym is ∙ same) in
     let filled : path ≢ [] = λ none. some (joined ∙ ap (join_with_byte 47) none) in
-    let parts : slice_split (λ byte. byte == 47) rest ≡ path = ap (slice_split (λ byte. byte == 47)) joined ∙ split_of-joined path filled is_path.are_names.1 in
+    let parts : slice_split (λ byte. byte == 47) rest ≡ path = ap (slice_split (λ byte. byte == 47)) joined
+    ∙ split_of-joined path filled is_path.are_names.1 in
     not_names (subst AreNames (sym parts) is_path.are_names)
 
 -- a name isn't empty, so joined names aren't

@@ -3,20 +3,10 @@
 ghost use Rattle.std.specs.Prelude.{◌≡◌};
 
 use std::alloc::{AllocError, AllocFailed};
-use std::error::Error;
-use std::fmt;
 
 /// Want of memory. A call that answers it leaves its object as it was, unless the call says otherwise.
 #[derive(Clone, Copy, Debug, PartialEq, Eq)]
 pub struct Memory;
-
-impl fmt::Display for Memory {
-    fn fmt<W: fmt::Write>(&self, f: &mut fmt::Formatter<W>) -> fmt::Result {
-        write!(f, "out of memory")
-    }
-}
-
-impl Error for Memory {}
 
 impl From<AllocError> for Memory {
     fn from(_error: AllocError) -> Memory {
@@ -33,14 +23,6 @@ impl<T: Drop> From<AllocFailed<T>> for Memory {
 /// A source or a sink failed, and its count of faults rose in that call.
 #[derive(Clone, Copy, Debug, PartialEq, Eq)]
 pub struct Failed;
-
-impl fmt::Display for Failed {
-    fn fmt<W: fmt::Write>(&self, f: &mut fmt::Formatter<W>) -> fmt::Result {
-        write!(f, "the call failed")
-    }
-}
-
-impl Error for Failed {}
 
 /// Why not all of a source was read.
 #[derive(Clone, Copy, Debug, PartialEq, Eq)]
@@ -67,16 +49,3 @@ impl ReadError {
         }
     }
 }
-
-impl fmt::Display for ReadError {
-    ghost use Rattle.std.specs.Prelude.{Some};
-    ghost use Rattle.lu_base.specs.Errors.{read_error_text};
-
-    ghost output = { λ e. Some (read_error_text e) };
-
-    fn fmt<W: fmt::Write>(&self, f: &mut fmt::Formatter<W>) -> fmt::Result {
-        f.write_str(self.text())
-    }
-}
-
-impl Error for ReadError {}

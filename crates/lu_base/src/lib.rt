@@ -4,6 +4,7 @@
 
 mod faults;
 mod ids;
+mod limits;
 mod locks;
 mod sequence;
 mod sink;
@@ -13,6 +14,7 @@ mod values;
 
 pub use faults::{Failed, Memory, ReadError};
 pub use ids::{At, Cookie, Fid, Node, Stamp, TargetId, Txn, Who, Xid};
+pub use limits::{MOST_CALL_BYTES, MOST_POSITION};
 pub use locks::{Ask, Cause, Extent, Lock, Mode, Policy, Resource};
 pub use sequence::{
     Bytes, Cookies, Duplicate, Lives, Locks, Name, Names, Numbers, Path, Resources, Sequence,

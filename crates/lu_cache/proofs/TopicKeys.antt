@@ -7,7 +7,7 @@ use Rattle.lu_cache.specs.declared.topics.Topic.{Topic}
 use Rattle.lu_cache.specs.declared.topics.Topic.TheVariants.{Name, List as Names, Attr, Layout}
 use Rattle.lu_cache.specs.declared.facts.Fact.{Fact}
 use Rattle.lu_cache.specs.contracts.topics.TopicEq.TheImpl.Laws.{laws-law}
-use Rattle.lu_client_rows.specs.Known.{same_part}
+use Rattle.lu_spec_client.specs.Known.{same_part}
 use Rattle.lu_cache.specs.Topics.{same_topic, part_of}
 use Rattle.lu_cache.specs.Logs.{is_about}
 
@@ -38,9 +38,11 @@ cookie_is c d same = let e : c.0 ≡ d.0 = grind (arith, nat_tests) in ap (λ n.
 -- about the same as a fact is about what that is about
 pub about_same : (t : Topic) (c : Cookie) (f g : Fact) → is_about t c f ≡ true → is_about t c g ≡ is_about f.topic f.cookie g
 about_same t c f g about = by (same_topic f.topic t) refl (f.cookie.0 == c.0) refl about where
-  by : (v : Bool) → same_topic f.topic t ≡ v → (w : Bool) → (f.cookie.0 == c.0) ≡ w → (v && w) ≡ true → is_about t c g ≡ is_about f.topic f.cookie g
+  by : (v : Bool) → same_topic f.topic t ≡ v → (w : Bool) → (f.cookie.0 == c.0) ≡ w → (v && w) ≡ true → is_about t c g
+      ≡ is_about f.topic f.cookie g
   by true e true h both =
-      let topics : same_topic g.topic t ≡ same_topic g.topic f.topic = same_turned g.topic t ∙ sym (laws.congr f.topic t g.topic e) ∙ same_turned f.topic g.topic in
+      let topics : same_topic g.topic t ≡ same_topic g.topic f.topic = same_turned g.topic t ∙ sym (laws.congr f.topic t g.topic e)
+      ∙ same_turned f.topic g.topic in
       let cookies : f.cookie ≡ c = cookie_is f.cookie c h in
       ap (λ v. v && g.cookie.0 == c.0) topics ∙ ap (λ (d : Cookie). same_topic g.topic f.topic && g.cookie.0 == d.0) (sym cookies)
   by true e false h both = absurd (cc)

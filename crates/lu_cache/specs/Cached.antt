@@ -10,10 +10,10 @@ use Rattle.lu_msg.specs.declared.answers.Answer.TheVariants.{Granted}
 use Rattle.lu_msg.specs.declared.operations.Op.{Op}
 use Rattle.lu_msg.specs.declared.operations.Op.TheVariants.{Enqueue}
 use Rattle.lu_held.specs.Locks.{reaches_end}
-use Rattle.lu_words.specs.Words.{Entry, Learns, Drop}
-use Rattle.lu_client_rows.specs.Bytes.{Bytes}
-use Rattle.lu_client_rows.specs.Facts.{Fact, without_facts, facts_after}
-use Rattle.lu_client_rows.specs.Caches.{Note, with_note, bytes_after, sizes_after, shown_after, forgotten_bytes, forgotten_notes}
+use Rattle.lu_spec_entries.specs.Words.{Entry, Learns, Drop}
+use Rattle.lu_spec_client.specs.Bytes.{Bytes}
+use Rattle.lu_spec_client.specs.Facts.{Fact, without_facts, facts_after}
+use Rattle.lu_spec_client.specs.Caches.{Note, with_note, bytes_after, sizes_after, shown_after, forgotten_bytes, forgotten_notes}
 
 -- The facts, what is known of each object's bytes, the sizes and the greatest offsets shown that are kept for locks.
 pub record Cached : Type 0 where

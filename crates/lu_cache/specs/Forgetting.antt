@@ -2,7 +2,7 @@
 -- is filed of which there is no fact any more.
 use Rattle.std.specs.Prelude.{◌≡◌, ℕ, ◌==◌, not, Bool, true, false, List, filter, Some, None}
 use Rattle.lu_base.specs.declared.ids.Cookie.{Cookie}
-use Rattle.lu_machine.specs.Places.{RisingFrom, found_at}
+use Rattle.lu_spec_machine.specs.Places.{RisingFrom, found_at}
 use Rattle.lu_cache.specs.declared.topics.Topic.{Topic}
 use Rattle.lu_cache.specs.declared.facts.Fact.{Fact}
 use Rattle.lu_cache.specs.declared.filing.Filing.{Filing}

@@ -4,11 +4,11 @@ use Rattle.std.specs.Prelude.{◌≡◌, ℕ, ◌+◌, ◌<◌, ◌^◌, ◌==�
 use Rattle.lu_base.specs.declared.ids.Cookie.{Cookie}
 use Rattle.lu_base.specs.declared.locks.Resource.{Resource}
 use Rattle.lu_base.specs.contracts.locks.ResourcePartialEq.TheImpl as equality
-use Rattle.lu_words.specs.declared.changes.Flush.{Flush}
-use Rattle.lu_words.specs.declared.changes.Flush.TheVariants.{Cut, Put}
+use Rattle.lu_spec_entries.specs.declared.changes.Flush.{Flush}
+use Rattle.lu_spec_entries.specs.declared.changes.Flush.TheVariants.{Cut, Put}
 use Rattle.lu_held.specs.Locks.{same_resource}
-use Rattle.lu_machine.specs.Places.{RisingFrom}
-use Rattle.lu_client_rows.specs.Caches.{Note as RowNote, grown}
+use Rattle.lu_spec_machine.specs.Places.{RisingFrom}
+use Rattle.lu_spec_client.specs.Caches.{Note as RowNote, grown}
 use Rattle.lu_cache.specs.declared.notes.Note.{Note}
 use Rattle.lu_cache.specs.declared.filing.Filing.{Filing}
 use Rattle.lu_cache.specs.Numbered.{Numbered, first_number}

@@ -5,8 +5,8 @@ use Rattle.std.specs.List.{list_any}
 use Rattle.std.specs.Map.{lookup}
 use Rattle.lu_base.specs.declared.ids.Cookie.{Cookie}
 use Rattle.lu_base.specs.contracts.ids.CookiePartialEq.TheImpl as equality
-use Rattle.lu_machine.specs.Places.{RisingFrom, found_at}
-use Rattle.lu_client_rows.specs.Facts.{Fact as RowFact}
+use Rattle.lu_spec_machine.specs.Places.{RisingFrom, found_at}
+use Rattle.lu_spec_client.specs.Facts.{Fact as RowFact}
 use Rattle.lu_cache.specs.declared.topics.Topic.{Topic}
 use Rattle.lu_cache.specs.declared.facts.Fact.{Fact}
 use Rattle.lu_cache.specs.declared.filing.Filing.{Filing}

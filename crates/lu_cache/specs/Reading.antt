@@ -1,7 +1,7 @@
 -- Bytes that are read: all of them are known, or none is told.
 use Rattle.std.specs.Prelude.{◌≡◌, ℕ, ◌+◌, ◌<◌, List, Some, IsSome, slice_index_or}
-use Rattle.lu_machine.specs.Places.{found_at}
-use Rattle.lu_bytes.specs.Changes.{Bytes}
+use Rattle.lu_spec_machine.specs.Places.{found_at}
+use Rattle.lu_spec_bytes.specs.Changes.{Bytes}
 
 -- so many bytes from an offset on are known
 abbrev pub AreKnown : Bytes → ℕ → ℕ → Type 0

@@ -7,8 +7,9 @@ use Rattle.lu_msg.specs.declared.answers.Answer.TheVariants as answer
 use Rattle.lu_msg.specs.declared.operations.Op.{Op}
 use Rattle.lu_msg.specs.declared.operations.Op.TheVariants as op
 use Rattle.lu_held.specs.declared.locks.HeldLock.{HeldLock}
-use Rattle.lu_client_rows.specs.Facts.{Fact}
-use Rattle.lu_client_rows.specs.Known.{Notes, Known as RowKnown, KnownFile, Found as RowFound, found_at_path, lookup_known, list_known, layout_known, directory_known, file_known, cookies_of_file, names_of}
+use Rattle.lu_spec_client.specs.Facts.{Fact}
+use Rattle.lu_spec_client.specs.Known.{Notes, Known as RowKnown, KnownFile, Found as RowFound, found_at_path, lookup_known, list_known}
+use Rattle.lu_spec_client.specs.Known.{layout_known, directory_known, file_known, cookies_of_file, names_of}
 use Rattle.lu_cache.specs.declared.paths.Found.{Found}
 use Rattle.lu_cache.specs.declared.paths.Told.{Told}
 use Rattle.lu_cache.specs.declared.known.Known.{Known}

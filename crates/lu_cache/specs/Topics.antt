@@ -6,7 +6,7 @@ use Rattle.lu_part.specs.declared.parts.Part.{Part}
 use Rattle.lu_part.specs.declared.parts.Part.TheVariants as part
 use Rattle.lu_msg.specs.declared.answers.Answer.{Answer}
 use Rattle.lu_msg.specs.declared.answers.Answer.TheVariants as answer
-use Rattle.lu_client_rows.specs.Facts.{Fact as RowFact}
+use Rattle.lu_spec_client.specs.Facts.{Fact as RowFact}
 use Rattle.lu_cache.specs.declared.topics.Topic.{Topic}
 use Rattle.lu_cache.specs.declared.topics.Topic.TheVariants.{Name, List as Names, Attr, Layout}
 use Rattle.lu_cache.specs.declared.facts.Fact.{Fact}

@@ -5,8 +5,8 @@ use Rattle.std.specs.List.{list_any}
 use Rattle.lu_base.specs.declared.ids.Cookie.{Cookie}
 use Rattle.lu_part.specs.declared.parts.Part.{Part}
 use Rattle.lu_held.specs.declared.locks.HeldLock.{HeldLock}
-use Rattle.lu_client_rows.specs.Facts.{Fact}
-use Rattle.lu_client_rows.specs.Known.{Notes, same_part, is_usable, of_least_cookie}
+use Rattle.lu_spec_client.specs.Facts.{Fact}
+use Rattle.lu_spec_client.specs.Known.{Notes, same_part, is_usable, of_least_cookie}
 
 -- What is known of a part under a lock that may be used, of several the one of least cookie.
 abbrev pub fact_under : Part → (Cookie → Bool) → List Fact → Option Fact

@@ -2,14 +2,14 @@
 
 ghost use Rattle.std.specs.Prelude.{◌≡◌, ◌+◌, ◌≤◌, ◌^◌, ◌<◌, [], length, unwrap_or, slice_index, IfOk, OnOk, OnErr, IsTrue, IsFalse, Some, None};
 ghost use Rattle.std.specs.Option.{option_copied};
-ghost use Rattle.lu_machine.specs.Places.{laid, found_at};
-ghost use Rattle.lu_bytes.specs.Changes.{outside, zeroed};
-ghost use Rattle.lu_client_rows.specs.Caches.{bytes_at, with_object, on_object};
+ghost use Rattle.lu_spec_machine.specs.Places.{laid, found_at};
+ghost use Rattle.lu_spec_bytes.specs.Changes.{outside, zeroed};
+ghost use Rattle.lu_spec_client.specs.Caches.{bytes_at, with_object, on_object};
 ghost use Rattle.lu_cache.specs.Reading.{AreKnown, AreAt};
 
 use indexmap::IndexMap;
 use lu_base::{Extent, Memory, Resource};
-use lu_places::Places;
+use lu_page::Places;
 use std::alloc::Global;
 use std::marker::Model;
 
@@ -23,7 +23,7 @@ pub(crate) struct KnownBytes {
 impl Model for KnownBytes {
     ghost use Rattle.std.specs.Prelude.{List};
     ghost use Rattle.lu_base.specs.declared.locks.Resource.{Resource as ResourceOf};
-    ghost use Rattle.lu_bytes.specs.Changes.{Bytes};
+    ghost use Rattle.lu_spec_bytes.specs.Changes.{Bytes};
 
     ghost Value = { List (ResourceOf × Bytes) };
 

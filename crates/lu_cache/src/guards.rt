@@ -3,7 +3,7 @@
 ghost use Rattle.std.specs.Prelude.{◌≡◌, ◌==◌, ℕ, Bool};
 ghost use Rattle.std.specs.List.{list_any};
 ghost use Rattle.lu_base.specs.declared.ids.Cookie.{Cookie as CookieOf};
-ghost use Rattle.lu_client_rows.specs.Known.{is_usable};
+ghost use Rattle.lu_spec_client.specs.Known.{is_usable};
 ghost use Rattle.lu_cache.specs.Usable.{isn't_marked};
 
 use lu_base::{Cookie, Cookies, TargetId};

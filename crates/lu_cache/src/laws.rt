@@ -5,10 +5,10 @@
 
 ghost use Rattle.std.specs.Prelude.{◌≡◌, ◌↔◌, ℕ, List};
 ghost use Rattle.lu_base.specs.declared.locks.Resource.{Resource};
-ghost use Rattle.lu_machine.specs.Places.{found_at};
-ghost use Rattle.lu_words.specs.Words.{Entry};
-ghost use Rattle.lu_client_rows.specs.Facts.{Fact};
-ghost use Rattle.lu_client_rows.specs.Caches.{bytes_at};
+ghost use Rattle.lu_spec_machine.specs.Places.{found_at};
+ghost use Rattle.lu_spec_entries.specs.Words.{Entry};
+ghost use Rattle.lu_spec_client.specs.Facts.{Fact};
+ghost use Rattle.lu_spec_client.specs.Caches.{bytes_at};
 ghost use Rattle.lu_cache.specs.Histories.{known_after, byte_known, IsAmong, IsKnown};
 
 /// A byte is known exactly from its filling until a lock on its object that holds it is given up, and is 0 once a cut

@@ -1,7 +1,7 @@
 //! What each reply teaches.
 
 ghost use Rattle.std.specs.Prelude.{◌≡◌, [], ◌∷◌, ◌++◌, length, IfOk, OnOk};
-ghost use Rattle.lu_client_rows.specs.Facts.{fact as fact_on, taught, names_taught, name_facts, inode_taught, last_of, stat_facts, root};
+ghost use Rattle.lu_spec_client.specs.Facts.{fact as fact_on, taught, names_taught, name_facts, inode_taught, last_of, stat_facts, root};
 ghost use Rattle.lu_part.specs.declared.parts.Part.TheVariants as part;
 ghost use Rattle.lu_msg.specs.declared.answers.Answer.TheVariants as answer;
 ghost use Rattle.lu_cache.specs.Topics.{row_fact, told_of, kind_of, row_facts};

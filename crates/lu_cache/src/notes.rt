@@ -1,13 +1,13 @@
 //! Numbers that are kept for the locks of objects: sizes, or the greatest offsets that were shown.
 
 ghost use Rattle.std.specs.Prelude.{◌≡◌, ◌∷◌, [], map, filter, IfOk, OnOk, OnErr, Option, Some, None};
-ghost use Rattle.lu_client_rows.specs.Caches.{noted, with_note, without_note, grown, grown_notes};
+ghost use Rattle.lu_spec_client.specs.Caches.{noted, with_note, without_note, grown, grown_notes};
 ghost use Rattle.lu_cache.specs.Kept.{grown_one, Fits};
 
 use super::filing::Filing;
 use super::numbers::next_number;
 use lu_base::{Cookie, Memory, Resource};
-use lu_words::Flush;
+use lu_spec_entries::Flush;
 use std::alloc::Global;
 use std::cmp::max;
 use std::collections::BTreeMap;
@@ -32,7 +32,7 @@ pub(crate) struct Notes {
 
 impl Model for Notes {
     ghost use Rattle.std.specs.Prelude.{List};
-    ghost use Rattle.lu_client_rows.specs.Caches.{Note as RowNote};
+    ghost use Rattle.lu_spec_client.specs.Caches.{Note as RowNote};
     ghost use Rattle.lu_cache.specs.Kept.{notes_of, AreNoted};
 
     ghost Value = { List RowNote };

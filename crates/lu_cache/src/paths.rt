@@ -4,7 +4,7 @@ ghost use Rattle.std.specs.Prelude.{◌≡◌, [], ◌∷◌, ◌++◌, IfOk, On
 ghost use Rattle.lu_part.specs.declared.parts.Part.TheVariants as part;
 ghost use Rattle.lu_msg.specs.declared.answers.Answer.TheVariants as answer;
 ghost use Rattle.lu_msg.specs.declared.operations.Op.TheVariants as op;
-ghost use Rattle.lu_client_rows.specs.Known.{Notes, walked, found_at_path, known_with, fact_on, file_facts, lookup_known, list_known, layout_known, cookies_of_file, cookie_of};
+ghost use Rattle.lu_spec_client.specs.Known.{Notes, walked, found_at_path, known_with, fact_on, file_facts, lookup_known, list_known, layout_known, cookies_of_file, cookie_of};
 ghost use Rattle.lu_cache.specs.Topics.{part_of, row_fact};
 ghost use Rattle.lu_cache.specs.Logs.{facts_of};
 ghost use Rattle.lu_cache.specs.Tells.{known_on, locks_of, known_of, found_by, told_by, of_file};

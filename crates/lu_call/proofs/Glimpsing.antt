@@ -10,12 +10,12 @@ use Rattle.lu_held.specs.declared.locks.HeldLock.{HeldLock}
 use Rattle.lu_held.specs.declared.locks.Use.{Use}
 use Rattle.lu_held.specs.Locks.{lock_of}
 use Rattle.lu_held.specs.Held.{serving}
-use Rattle.lu_words.specs.Carried.{Work, Running}
-use Rattle.lu_words.specs.Words.{Entry}
-use Rattle.lu_client_rows.specs.States.{Store}
-use Rattle.lu_client_rows.specs.Looks.{size_under}
-use Rattle.lu_client_rows.specs.Advances.{asks_lock, tells}
-use Rattle.lu_client_rows.specs.Glimpses.{sized, glimpses, glimpses_on, glimpse_asks, glimpse_comes, glimpse_hears}
+use Rattle.lu_spec_entries.specs.Carried.{Work, Running}
+use Rattle.lu_spec_entries.specs.Words.{Entry}
+use Rattle.lu_spec_client.specs.States.{Store}
+use Rattle.lu_spec_client.specs.Looks.{size_under}
+use Rattle.lu_spec_client.specs.Advances.{asks_lock, tells}
+use Rattle.lu_spec_client.specs.Glimpses.{sized, glimpses, glimpses_on, glimpse_asks, glimpse_comes, glimpse_hears}
 use Rattle.lu_client_store.specs.Stored.{StoreState}
 use Rattle.lu_call.specs.declared.nexts.Next.{Next}
 use Rattle.lu_call.specs.Glimpsed.{Glimpsed, GlimpsesOn, GlimpsesNoMore, asks_for_size, after_glimpses}
@@ -38,7 +38,8 @@ pub record Taken (left rest : List Use) (sizes more : List ℕ) (s : Store) : Ty
 pub taken_none : (left : List Use) (sizes : List ℕ) (s : Store) → Taken left left sizes sizes s
 taken_none left sizes s = record { count = 0; wants = refl; goes = λ at slot r w. refl }
 
-pub taken_more : {left rest rest2 : List Use} {sizes more more2 : List ℕ} {s : Store} (size : ℕ) → Taken left rest sizes more s → rest2 ≡ drop 1 rest → more2 ≡ more ++ size ∷ [] → GlimpsesOn rest (drop 1 rest) more (more ++ size ∷ []) s → Taken left rest2 sizes more2 s
+pub taken_more : {left rest rest2 : List Use} {sizes more more2 : List ℕ} {s : Store} (size : ℕ) → Taken left rest sizes more s → rest2
+    ≡ drop 1 rest → more2 ≡ more ++ size ∷ [] → GlimpsesOn rest (drop 1 rest) more (more ++ size ∷ []) s → Taken left rest2 sizes more2 s
 taken_more {left = left} {rest2 = rest2} {more = more} {s = s} size taken shorter longer goes =
     record {
       count = taken.count + 1;
@@ -50,7 +51,8 @@ taken_more {left = left} {rest2 = rest2} {more = more} {s = s} size taken shorte
           ∙ ap (λ (ns : List ℕ). glimpses at slot rest2 ns r w s) (sym longer);
     }
 
-pub taken_all : {left rest : List Use} {sizes more : List ℕ} {s : Store} → Taken left rest sizes more s → GlimpsesNoMore rest more s → Glimpsed left rest sizes more s
+pub taken_all : {left rest : List Use} {sizes more : List ℕ} {s : Store} → Taken left rest sizes more s → GlimpsesNoMore rest more s
+    → Glimpsed left rest sizes more s
 taken_all taken stops = record { count = taken.count; wants = taken.wants; goes = taken.goes; stops = stops }
 
 -- ---- what always holds of a glimpse
@@ -75,14 +77,18 @@ left_sound w rest is sound =
       left = subst (λ (us : List Use). All (IsWant w.fid w.layout) us) (sym is) (All-drop (IsWant w.fid w.layout) 1 w.left sound.left);
     }
 
-pub sized_sizing : (w : Work) (n : ℕ) (rest : List Use) (sizes : List ℕ) (wanted : Use) → rest ≡ wanted ∷ drop 1 rest → rest ≡ drop n w.left → IsWork w → IsSizing (sized rest sizes w)
+pub sized_sizing : (w : Work) (n : ℕ) (rest : List Use) (sizes : List ℕ) (wanted : Use) → rest ≡ wanted ∷ drop 1 rest → rest ≡ drop n w.left
+    → IsWork w → IsSizing (sized rest sizes w)
 sized_sizing w n rest sizes wanted first is sound =
     record { wanting = record { work = sized_sound w n rest sizes is sound; some = some_left rest wanted first }; kind = refl }
 
 -- ---- how a glimpse goes on
 
 -- it asks for the next size
-pub goes_size : {slot : ℕ} {new : Running} {before after : StoreState} {out : Next} {left rest : List Use} {sizes more : List ℕ} (at : At) (r : Running) (w : Work) (wanted : Use) → Glimpsed left rest sizes more before.store → rest ≡ wanted ∷ drop 1 rest → GoesBy (asks_for_size slot wanted r (sized rest more w)) slot new before after out → GoesBy (glimpses at slot left sizes r w before.store) slot new before after out
+pub goes_size : {slot : ℕ} {new : Running} {before after : StoreState} {out : Next} {left rest : List Use} {sizes more : List ℕ} (at : At)
+    (r : Running) (w : Work) (wanted : Use) → Glimpsed left rest sizes more before.store → rest ≡ wanted ∷ drop 1 rest
+    → GoesBy (asks_for_size slot wanted r (sized rest more w)) slot new before after out
+    → GoesBy (glimpses at slot left sizes r w before.store) slot new before after out
 goes_size {slot = slot} {more = more} at r w wanted glimpsed first goes =
     goes_as
     (glimpsed.goes at slot r w
@@ -92,12 +98,18 @@ goes_size {slot = slot} {more = more} at r w wanted glimpsed first goes =
     goes
 
 -- it is told all sizes
-pub goes_sizes : {slot : ℕ} {new : Running} {before after : StoreState} {out : Next} {left rest : List Use} {sizes more : List ℕ} (at : At) (r : Running) (w : Work) → Glimpsed left rest sizes more before.store → rest ≡ [] → GoesBy (tells slot r at (answer.Sizes more) None) slot new before after out → GoesBy (glimpses at slot left sizes r w before.store) slot new before after out
+pub goes_sizes : {slot : ℕ} {new : Running} {before after : StoreState} {out : Next} {left rest : List Use} {sizes more : List ℕ} (at : At)
+    (r : Running) (w : Work) → Glimpsed left rest sizes more before.store → rest ≡ []
+    → GoesBy (tells slot r at (answer.Sizes more) None) slot new before after out
+    → GoesBy (glimpses at slot left sizes r w before.store) slot new before after out
 goes_sizes {slot = slot} {more = more} at r w glimpsed none goes =
     goes_as (glimpsed.goes at slot r w ∙ glimpsed.stops at slot r w ∙ ap (λ (us : List Use). after_glimpses at slot us more r w) none) goes
 
 -- it was told a size
-pub goes_heard : {slot : ℕ} {new : Running} {before after : StoreState} {out : Next} (at : At) (size : ℕ) (left rest : List Use) (sizes more : List ℕ) (r : Running) (w : Work) → 0 < length left → rest ≡ drop 1 left → more ≡ sizes ++ size ∷ [] → GoesBy (glimpses at slot rest more r (record w { left = rest }) before.store) slot new before after out → GoesBy (glimpse_hears at slot left sizes (answer.Size size) r w before.store) slot new before after out
+pub goes_heard : {slot : ℕ} {new : Running} {before after : StoreState} {out : Next} (at : At) (size : ℕ) (left rest : List Use)
+    (sizes more : List ℕ) (r : Running) (w : Work) → 0 < length left → rest ≡ drop 1 left → more ≡ sizes ++ size ∷ []
+    → GoesBy (glimpses at slot rest more r (record w { left = rest }) before.store) slot new before after out
+    → GoesBy (glimpse_hears at slot left sizes (answer.Size size) r w before.store) slot new before after out
 goes_heard at size [] rest sizes more r w some shorter longer goes = absurd (omega (arith, some))
 goes_heard {slot = slot} {before = before} at size (wanted ∷ left) rest sizes more r w some shorter longer goes =
     goes_as
@@ -107,12 +119,15 @@ goes_heard {slot = slot} {before = before} at size (wanted ∷ left) rest sizes 
     goes
 
 -- a lock came: its size is heard
-pub came_is_heard : (at : At) (slot : ℕ) (lock : Lock) (left : List Use) (sizes : List ℕ) (r : Running) (w : Work) (s : Store) → glimpse_comes at slot lock left sizes r w s ≡ glimpse_hears at slot left sizes (answer.Size (size_under lock s)) r w s
+pub came_is_heard : (at : At) (slot : ℕ) (lock : Lock) (left : List Use) (sizes : List ℕ) (r : Running) (w : Work) (s : Store)
+    → glimpse_comes at slot lock left sizes r w s ≡ glimpse_hears at slot left sizes (answer.Size (size_under lock s)) r w s
 came_is_heard at slot lock [] sizes r w s = refl
 came_is_heard at slot lock (wanted ∷ left) sizes r w s = refl
 
 -- a held lock is used as one that came
-pub serves_as_came : (at : At) (slot : ℕ) (wanted : Use) (lock : Lock) (left : List Use) (sizes : List ℕ) (r : Running) (w : Work) (s : Store) → left ≡ wanted ∷ drop 1 left → option_map lock_of (serving wanted s.held) ≡ Some lock → glimpse_asks at slot left sizes r w s ≡ glimpse_comes at slot lock left sizes r w s
+pub serves_as_came : (at : At) (slot : ℕ) (wanted : Use) (lock : Lock) (left : List Use) (sizes : List ℕ) (r : Running) (w : Work)
+    (s : Store) → left ≡ wanted ∷ drop 1 left → option_map lock_of (serving wanted s.held) ≡ Some lock
+    → glimpse_asks at slot left sizes r w s ≡ glimpse_comes at slot lock left sizes r w s
 serves_as_came at slot wanted lock left sizes r w s first serves =
     ap (λ (us : List Use). glimpse_asks at slot us sizes r w s) first
     ∙ by (serving wanted s.held) serves
@@ -121,17 +136,22 @@ serves_as_came at slot wanted lock left sizes r w s first serves =
     more : Lock → List Entry
     more l = glimpses at slot (drop 1 left) (sizes ++ size_under l s ∷ []) r w s
 
-    by : (o : Option HeldLock) → option_map lock_of o ≡ Some lock → glimpses_on (λ h. more h.lock) (asks_lock slot wanted r (sized (wanted ∷ drop 1 left) sizes w)) o ≡ more lock
+    by : (o : Option HeldLock) → option_map lock_of o ≡ Some lock
+        → glimpses_on (λ h. more h.lock) (asks_lock slot wanted r (sized (wanted ∷ drop 1 left) sizes w)) o ≡ more lock
     by None serves = absurd (cc)
     by (Some h) serves = let same : h.lock ≡ lock = cc in ap more same
 
 -- no held lock does: it is asked for
-pub asks_for_lock : (at : At) (slot : ℕ) (wanted : Use) (left : List Use) (sizes : List ℕ) (r : Running) (w : Work) (s : Store) → left ≡ wanted ∷ drop 1 left → option_map lock_of (serving wanted s.held) ≡ None → glimpse_asks at slot left sizes r w s ≡ asks_lock slot wanted r (sized left sizes w)
+pub asks_for_lock : (at : At) (slot : ℕ) (wanted : Use) (left : List Use) (sizes : List ℕ) (r : Running) (w : Work) (s : Store) → left
+    ≡ wanted ∷ drop 1 left → option_map lock_of (serving wanted s.held) ≡ None → glimpse_asks at slot left sizes r w s
+    ≡ asks_lock slot wanted r (sized left sizes w)
 asks_for_lock at slot wanted left sizes r w s first serves =
     ap (λ (us : List Use). glimpse_asks at slot us sizes r w s) first
     ∙ by (serving wanted s.held) serves
     ∙ sym (ap (λ (us : List Use). asks_lock slot wanted r (sized us sizes w)) first)
   where
-    by : (o : Option HeldLock) → option_map lock_of o ≡ None → glimpses_on (λ h. glimpses at slot (drop 1 left) (sizes ++ size_under h.lock s ∷ []) r w s) (asks_lock slot wanted r (sized (wanted ∷ drop 1 left) sizes w)) o ≡ asks_lock slot wanted r (sized (wanted ∷ drop 1 left) sizes w)
+    by : (o : Option HeldLock) → option_map lock_of o ≡ None → glimpses_on
+        (λ h. glimpses at slot (drop 1 left) (sizes ++ size_under h.lock s ∷ []) r w s)
+        (asks_lock slot wanted r (sized (wanted ∷ drop 1 left) sizes w)) o ≡ asks_lock slot wanted r (sized (wanted ∷ drop 1 left) sizes w)
     by None serves = refl
     by (Some h) serves = absurd (cc)

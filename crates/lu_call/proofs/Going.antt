@@ -9,13 +9,13 @@ use Rattle.lu_held.specs.declared.locks.Use.{Use}
 use Rattle.lu_held.specs.declared.names.LockName.{LockName}
 use Rattle.lu_msg.specs.declared.answers.Answer.{Answer}
 use Rattle.lu_msg.specs.declared.operations.Op.{Op}
-use Rattle.lu_words.specs.declared.uses.Using.{Using}
-use Rattle.lu_words.specs.Carried.{Work, Running, Stage, Asked}
-use Rattle.lu_words.specs.Words.{Entry, Told, Queues, Stands, Binds, Pins, Unpins, Changes, WritesBack, Shows}
-use Rattle.lu_client_rows.specs.Calls.{call_after}
-use Rattle.lu_client_rows.specs.States.{Store, store_after, store_turn, follow_store}
-use Rattle.lu_client_rows.specs.Advances.{Next as NextRow, at_stage, queued_for, tells, unpins, writes, cuts, looks, asks_lock}
-use Rattle.lu_client_rows.specs.Starts.{pins}
+use Rattle.lu_spec_entries.specs.declared.uses.Using.{Using}
+use Rattle.lu_spec_entries.specs.Carried.{Work, Running, Stage, Asked}
+use Rattle.lu_spec_entries.specs.Words.{Entry, Told, Queues, Stands, Binds, Pins, Unpins, Changes, WritesBack, Shows}
+use Rattle.lu_spec_client.specs.Calls.{call_after}
+use Rattle.lu_spec_client.specs.States.{Store, store_after, store_turn, follow_store}
+use Rattle.lu_spec_client.specs.Advances.{Next as NextRow, at_stage, queued_for, tells, unpins, writes, cuts, looks, asks_lock}
+use Rattle.lu_spec_client.specs.Starts.{pins}
 use Rattle.lu_client_store.specs.Stored.{StoreState, stored_after, stored_turn}
 use Rattle.lu_call.specs.declared.nexts.Binding.{Binding}
 use Rattle.lu_call.specs.declared.nexts.Next.{Next}
@@ -30,7 +30,8 @@ pub own_more : (slot : ℕ) (es fs : List Entry) → are_own slot es ≡ true �
 own_more slot [] fs own more = more
 own_more slot (e ∷ es) fs own more = by (is_own slot e) own (λ rest. own_more slot es fs rest more)
   where
-    by : (b : Bool) → (b && are_own slot es) ≡ true → (are_own slot es ≡ true → are_own slot (es ++ fs) ≡ true) → (b && are_own slot (es ++ fs)) ≡ true
+    by : (b : Bool) → (b && are_own slot es) ≡ true → (are_own slot es ≡ true → are_own slot (es ++ fs) ≡ true)
+        → (b && are_own slot (es ++ fs)) ≡ true
     by true own rest = rest own
     by false own rest = absurd (cc)
 
@@ -41,7 +42,8 @@ outward_more (Binds handle file ∷ es) fs = ap (λ (rest : List Entry). Binds h
 outward_more (Told slot at answer work ∷ es) fs = ap (λ (rest : List Entry). Told slot at answer None ∷ rest) (outward_more es fs)
 outward_more (e ∷ es) fs = outward_more es fs
 
-pub call_more : (slot : ℕ) (call : Option Running) (es fs : List Entry) → call_turn slot call (es ++ fs) ≡ call_turn slot (call_turn slot call es) fs
+pub call_more : (slot : ℕ) (call : Option Running) (es fs : List Entry) → call_turn slot call (es ++ fs)
+    ≡ call_turn slot (call_turn slot call es) fs
 call_more slot call [] fs = refl
 call_more slot call (e ∷ es) fs = call_more slot (call_after slot call e) es fs
 
@@ -115,7 +117,8 @@ pub unpins_quiet : (names : List LockName) → are_quiet (unpins names) ≡ true
 unpins_quiet [] = refl
 unpins_quiet (name ∷ names) = unpins_quiet names
 
-pub writes_quiet : (layout : Raid0) (position : ℕ) (bytes : List ℕ) (used : List Using) → are_quiet (writes layout position bytes used) ≡ true
+pub writes_quiet : (layout : Raid0) (position : ℕ) (bytes : List ℕ) (used : List Using) → are_quiet (writes layout position bytes used)
+    ≡ true
 writes_quiet layout position bytes [] = refl
 writes_quiet layout position bytes (u ∷ used) = writes_quiet layout position bytes used
 
@@ -126,56 +129,77 @@ cuts_quiet layout size (u ∷ used) = cuts_quiet layout size used
 -- ---- how a call goes on
 
 -- by the same entries, said otherwise
-pub goes_as : {es fs : List Entry} {slot : ℕ} {new : Running} {before after : StoreState} {out : Next} → fs ≡ es → GoesBy es slot new before after out → GoesBy fs slot new before after out
-goes_as {slot = slot} {new = new} {before = before} {after = after} {out = out} same goes = subst (λ (gs : List Entry). GoesBy gs slot new before after out) (sym same) goes
+pub goes_as : {es fs : List Entry} {slot : ℕ} {new : Running} {before after : StoreState} {out : Next} → fs ≡ es
+    → GoesBy es slot new before after out → GoesBy fs slot new before after out
+goes_as {slot = slot} {new = new} {before = before} {after = after} {out = out} same goes =
+    subst (λ (gs : List Entry). GoesBy gs slot new before after out) (sym same) goes
 
 -- its call, store and rest, said otherwise
-pub goes_where : {es : List Entry} {slot : ℕ} {new new2 : Running} {before after after2 : StoreState} {out out2 : Next} → new2 ≡ new → after2 ≡ after → out2 ≡ out → GoesBy es slot new before after out → GoesBy es slot new2 before after2 out2
-goes_where {es = es} {slot = slot} {new = new} {new2 = new2} {before = before} {after = after} {after2 = after2} {out = out} {out2 = out2} call store rest goes =
+pub goes_where : {es : List Entry} {slot : ℕ} {new new2 : Running} {before after after2 : StoreState} {out out2 : Next} → new2 ≡ new
+    → after2 ≡ after → out2 ≡ out → GoesBy es slot new before after out → GoesBy es slot new2 before after2 out2
+goes_where {es = es} {slot = slot} {new = new} {new2 = new2} {before = before} {after = after} {after2 = after2} {out = out} {out2 = out2}
+    call store rest goes =
     subst (λ (o : Next). GoesBy es slot new2 before after2 o) (sym rest)
     (subst (λ (s : StoreState). GoesBy es slot new2 before s out) (sym store)
     (subst (λ (r : Running). GoesBy es slot r before after out) (sym call) goes))
 
 -- it may stand as it stood
-pub goes_from : {es : List Entry} {slot : ℕ} (old : Running) {new : Running} {before after : StoreState} {out : Next} → GoesBy es slot new before after out → GoesFrom es slot old new before after out
+pub goes_from : {es : List Entry} {slot : ℕ} (old : Running) {new : Running} {before after : StoreState} {out : Next}
+    → GoesBy es slot new before after out → GoesFrom es slot old new before after out
 goes_from old goes = record { own = goes.own; store = goes.store; said = goes.said; call = goes.call old }
 
 -- after entries that change the store alone
-pub goes_on : {slot : ℕ} {new : Running} {before middle after : StoreState} {out : Next} (es fs : List Entry) → are_quiet es ≡ true → middle ≡ stored_turn before es → GoesBy fs slot new middle after out → GoesBy (es ++ fs) slot new before after out
+pub goes_on : {slot : ℕ} {new : Running} {before middle after : StoreState} {out : Next} (es fs : List Entry) → are_quiet es ≡ true → middle
+    ≡ stored_turn before es → GoesBy fs slot new middle after out → GoesBy (es ++ fs) slot new before after out
 goes_on {slot = slot} {before = before} es fs quiet first goes =
     record {
       own = own_more slot es fs (quiet_own slot es quiet) goes.own;
       store = goes.store ∙ ap (λ (s : StoreState). stored_turn s fs) first ∙ sym (stored_more before es fs);
       said = outward_more es fs ∙ ap (λ (gs : List Entry). gs ++ outward fs) (quiet_outward es quiet) ∙ goes.said;
-      call = λ c. call_more slot (Some c) es fs ∙ ap (λ (d : Option Running). call_turn slot d fs) (quiet_call slot (Some c) es quiet) ∙ goes.call c;
+      call = λ c. call_more slot (Some c) es fs ∙ ap (λ (d : Option Running). call_turn slot d fs) (quiet_call slot (Some c) es quiet)
+          ∙ goes.call c;
     }
 
-pub goes_from_on : {slot : ℕ} {old new : Running} {before middle after : StoreState} {out : Next} (es fs : List Entry) → are_quiet es ≡ true → middle ≡ stored_turn before es → GoesFrom fs slot old new middle after out → GoesFrom (es ++ fs) slot old new before after out
+pub goes_from_on : {slot : ℕ} {old new : Running} {before middle after : StoreState} {out : Next} (es fs : List Entry) → are_quiet es ≡ true
+    → middle ≡ stored_turn before es → GoesFrom fs slot old new middle after out → GoesFrom (es ++ fs) slot old new before after out
 goes_from_on {slot = slot} {old = old} {before = before} es fs quiet first goes =
     record {
       own = own_more slot es fs (quiet_own slot es quiet) goes.own;
       store = goes.store ∙ ap (λ (s : StoreState). stored_turn s fs) first ∙ sym (stored_more before es fs);
       said = outward_more es fs ∙ ap (λ (gs : List Entry). gs ++ outward fs) (quiet_outward es quiet) ∙ goes.said;
-      call = call_more slot (Some old) es fs ∙ ap (λ (d : Option Running). call_turn slot d fs) (quiet_call slot (Some old) es quiet) ∙ goes.call;
+      call = call_more slot (Some old) es fs ∙ ap (λ (d : Option Running). call_turn slot d fs) (quiet_call slot (Some old) es quiet)
+          ∙ goes.call;
     }
 
 -- what follows reads the store as these entries left it
-pub goes_follow : {slot : ℕ} {new : Running} {before middle after : StoreState} {out : Next} (es : List Entry) (more : Store → List Entry) → are_quiet es ≡ true → middle ≡ stored_turn before es → GoesBy (more middle.store) slot new middle after out → GoesBy (follow_store es more before.store) slot new before after out
+pub goes_follow : {slot : ℕ} {new : Running} {before middle after : StoreState} {out : Next} (es : List Entry) (more : Store → List Entry)
+    → are_quiet es ≡ true → middle ≡ stored_turn before es → GoesBy (more middle.store) slot new middle after out
+    → GoesBy (follow_store es more before.store) slot new before after out
 goes_follow {before = before} {middle = middle} es more quiet first goes =
-    goes_on es (more (store_turn before.store es)) quiet first (goes_as (ap more (sym (ap (λ (s : StoreState). s.store) first ∙ stored_store before es))) goes)
+    goes_on es (more (store_turn before.store es)) quiet first (goes_as
+    (ap more (sym (ap (λ (s : StoreState). s.store) first ∙ stored_store before es))) goes)
 
 -- after it has looked for its locks
-pub goes_looked : {slot : ℕ} {old new last : Running} {before middle after : StoreState} {from to : Work} {wanted : Option Use} {out : Next} (more : NextRow) → Looked wanted old new from to before middle → GoesBy (after_looking slot more wanted new to middle.store) slot last middle after out → GoesBy (looks slot more from.left old from before.store) slot last before after out
+pub goes_looked : {slot : ℕ} {old new last : Running} {before middle after : StoreState} {from to : Work} {wanted : Option Use} {out : Next}
+    (more : NextRow) → Looked wanted old new from to before middle
+    → GoesBy (after_looking slot more wanted new to middle.store) slot last middle after out
+    → GoesBy (looks slot more from.left old from before.store) slot last before after out
 goes_looked {slot = slot} {new = new} {middle = middle} {to = to} {wanted = wanted} more looked goes =
-    goes_as (looked.looks slot more) (goes_on (pins looked.names) (after_looking slot more wanted new to middle.store) (pins_quiet looked.names) looked.store goes)
+    goes_as (looked.looks slot more) (goes_on (pins looked.names) (after_looking slot more wanted new to middle.store)
+    (pins_quiet looked.names) looked.store goes)
 
 -- it asks for the first lock that no held one does for
-pub goes_asks : {slot : ℕ} {old new last : Running} {before middle after : StoreState} {from to : Work} {out : Next} (o : Option Use) (wanted : Use) (more : NextRow) → o ≡ Some wanted → Looked o old new from to before middle → GoesBy (asks_lock slot wanted new to) slot last middle after out → GoesBy (looks slot more from.left old from before.store) slot last before after out
+pub goes_asks : {slot : ℕ} {old new last : Running} {before middle after : StoreState} {from to : Work} {out : Next} (o : Option Use)
+    (wanted : Use) (more : NextRow) → o ≡ Some wanted → Looked o old new from to before middle
+    → GoesBy (asks_lock slot wanted new to) slot last middle after out
+    → GoesBy (looks slot more from.left old from before.store) slot last before after out
 goes_asks {slot = slot} {new = new} {middle = middle} {to = to} o wanted more e looked goes =
     goes_looked more looked (goes_as (ap (λ (p : Option Use). after_looking slot more p new to middle.store) e) goes)
 
 -- all its locks are in use
-pub goes_acts : {slot : ℕ} {old new last : Running} {before middle after : StoreState} {from to : Work} {out : Next} (o : Option Use) (more : NextRow) → o ≡ None → Looked o old new from to before middle → GoesBy (more new to middle.store) slot last middle after out → GoesBy (looks slot more from.left old from before.store) slot last before after out
+pub goes_acts : {slot : ℕ} {old new last : Running} {before middle after : StoreState} {from to : Work} {out : Next} (o : Option Use)
+    (more : NextRow) → o ≡ None → Looked o old new from to before middle → GoesBy (more new to middle.store) slot last middle after out
+    → GoesBy (looks slot more from.left old from before.store) slot last before after out
 goes_acts {slot = slot} {new = new} {middle = middle} {to = to} o more e looked goes =
     goes_looked more looked (goes_as (ap (λ (p : Option Use). after_looking slot more p new to middle.store) e) goes)
 
@@ -188,10 +212,12 @@ is_it n = grind (arith)
 pub stands_there : (slot : ℕ) (new : Running) (call : Option Running) → call_after slot call (Stands slot new) ≡ Some new
 stands_there slot new call = ap (λ (b : Bool). if b then Some new else call) (is_it slot)
 
-pub told_there : (slot : ℕ) (at : At) (answer : Answer) (work : Option Work) (call : Option Running) → call_after slot call (Told slot at answer work) ≡ None
+pub told_there : (slot : ℕ) (at : At) (answer : Answer) (work : Option Work) (call : Option Running)
+    → call_after slot call (Told slot at answer work) ≡ None
 told_there slot at answer work call = ap (λ (b : Bool). if b then None else call) (is_it slot)
 
-pub asked_there : (slot target : ℕ) (o : Op) (r : Running) → call_after slot (Some r) (Queues target (queued_for slot o)) ≡ Some (record r { asking = Asked })
+pub asked_there : (slot target : ℕ) (o : Op) (r : Running) → call_after slot (Some r) (Queues target (queued_for slot o))
+    ≡ Some (record r { asking = Asked })
 asked_there slot target o r = ap (λ (b : Bool). if b then Some (record r { asking = Asked }) else Some r) (is_it slot)
 
 -- it waits, and asks nothing
@@ -205,19 +231,24 @@ goes_wait slot new s =
     }
 
 -- it asks this of a target, and waits
-pub goes_ask : (slot : ℕ) (r : Running) (stage : Stage) (target : TargetId) (o : Op) (s : StoreState) → GoesBy (Stands slot (at_stage r stage) ∷ Queues target.0 (queued_for slot o) ∷ []) slot (record r { asking = Asked; stage = stage }) s s (next.Asks target o)
+pub goes_ask : (slot : ℕ) (r : Running) (stage : Stage) (target : TargetId) (o : Op) (s : StoreState)
+    → GoesBy (Stands slot (at_stage r stage) ∷ Queues target.0 (queued_for slot o) ∷ []) slot (record r { asking = Asked; stage = stage }) s
+    s (next.Asks target o)
 goes_ask slot r stage target o s =
     record {
       own = ap (λ (b : Bool). b && true) (is_it slot);
       store = refl;
       said = refl;
-      call = λ c. ap (λ (d : Option Running). call_after slot d (Queues target.0 (queued_for slot o))) (stands_there slot (at_stage r stage) (Some c)) ∙ asked_there slot target.0 o (at_stage r stage);
+      call = λ c. ap (λ (d : Option Running). call_after slot d (Queues target.0 (queued_for slot o)))
+          (stands_there slot (at_stage r stage) (Some c)) ∙ asked_there slot target.0 o (at_stage r stage);
     }
 
 -- a change is written back for no call, and it waits
-pub goes_back : (slot : ℕ) (new : Running) (target : TargetId) (o : Op) (e : Entry) (s : StoreState) → is_quiet e ≡ true → GoesBy (e ∷ Queues target.0 (back_of o) ∷ Stands slot new ∷ []) slot new s (stored_after s e) (next.WritesBack target o)
+pub goes_back : (slot : ℕ) (new : Running) (target : TargetId) (o : Op) (e : Entry) (s : StoreState) → is_quiet e ≡ true
+    → GoesBy (e ∷ Queues target.0 (back_of o) ∷ Stands slot new ∷ []) slot new s (stored_after s e) (next.WritesBack target o)
 goes_back slot new target o e s quiet =
-    goes_on {slot = slot} {new = new} {before = s} {middle = stored_after s e} {after = stored_after s e} {out = next.WritesBack target o} (e ∷ []) (Queues target.0 (back_of o) ∷ Stands slot new ∷ []) (ap (λ (b : Bool). b && true) quiet) refl
+    goes_on {slot = slot} {new = new} {before = s} {middle = stored_after s e} {after = stored_after s e} {out = next.WritesBack target o}
+    (e ∷ []) (Queues target.0 (back_of o) ∷ Stands slot new ∷ []) (ap (λ (b : Bool). b && true) quiet) refl
     (record {
       own = ap (λ (b : Bool). b && true) (is_it slot);
       store = refl;
@@ -226,19 +257,24 @@ goes_back slot new target o e s quiet =
     })
 
 -- it is told, and its locks are unpinned; there is no call any more, so of what it was nothing is said
-pub goes_told : (slot : ℕ) (r new : Running) (at : At) (answer : Answer) (work : Option Work) (s : StoreState) → GoesBy (tells slot r at answer work) slot new s (stored_turn s (unpins r.pins)) (next.Told at answer None)
+pub goes_told : (slot : ℕ) (r new : Running) (at : At) (answer : Answer) (work : Option Work) (s : StoreState)
+    → GoesBy (tells slot r at answer work) slot new s (stored_turn s (unpins r.pins)) (next.Told at answer None)
 goes_told slot r new at answer work s =
     record {
       own = ap (λ (b : Bool). b && are_own slot (unpins r.pins)) (is_it slot) ∙ quiet_own slot (unpins r.pins) (unpins_quiet r.pins);
       store = refl;
       said = ap (λ (es : List Entry). Told slot at answer None ∷ es) (quiet_outward (unpins r.pins) (unpins_quiet r.pins));
-      call = λ c. ap (λ (d : Option Running). call_turn slot d (unpins r.pins)) (told_there slot at answer work (Some c)) ∙ quiet_call slot None (unpins r.pins) (unpins_quiet r.pins);
+      call = λ c. ap (λ (d : Option Running). call_turn slot d (unpins r.pins)) (told_there slot at answer work (Some c))
+          ∙ quiet_call slot None (unpins r.pins) (unpins_quiet r.pins);
     }
 
 -- a handle is bound before
-pub goes_bound : (slot : ℕ) (b : Binding) (r new : Running) (at : At) (answer : Answer) (work : Option Work) (s : StoreState) → GoesBy (Binds b.handle (file_of b.file) ∷ tells slot r at answer work) slot new s (stored_turn s (unpins r.pins)) (next.Told at answer (Some b))
+pub goes_bound : (slot : ℕ) (b : Binding) (r new : Running) (at : At) (answer : Answer) (work : Option Work) (s : StoreState)
+    → GoesBy (Binds b.handle (file_of b.file) ∷ tells slot r at answer work) slot new s (stored_turn s (unpins r.pins))
+    (next.Told at answer (Some b))
 goes_bound slot b r new at answer work s =
-    let told : GoesBy (tells slot r at answer work) slot new s (stored_turn s (unpins r.pins)) (next.Told at answer None) = goes_told slot r new at answer work s in
+    let told : GoesBy (tells slot r at answer work) slot new s (stored_turn s (unpins r.pins)) (next.Told at answer None) =
+    goes_told slot r new at answer work s in
     record {
       own = told.own;
       store = told.store;
@@ -253,5 +289,6 @@ pub goes_nowhere : (slot : ℕ) (r : Running) (s : StoreState) → GoesFrom [] s
 goes_nowhere slot r s = record { own = refl; store = refl; said = refl; call = refl }
 
 -- it asks this of a target, and stands otherwise as before
-pub goes_ask_on : (slot : ℕ) (r : Running) (target : TargetId) (o : Op) (s : StoreState) → GoesFrom (Queues target.0 (queued_for slot o) ∷ []) slot r (record r { asking = Asked }) s s (next.Asks target o)
+pub goes_ask_on : (slot : ℕ) (r : Running) (target : TargetId) (o : Op) (s : StoreState)
+    → GoesFrom (Queues target.0 (queued_for slot o) ∷ []) slot r (record r { asking = Asked }) s s (next.Asks target o)
 goes_ask_on slot r target o s = record { own = refl; store = refl; said = refl; call = asked_there slot target.0 o r }

@@ -3,7 +3,7 @@ use Rattle.std.proofs.Common.{ℕ, ◌<◌, ◌≤◌, length, subst}
 use Rattle.lu_layout.specs.Raid0.{Raid0, below_of}
 use Rattle.lu_layout.specs.Sound.{IsLayout}
 use Rattle.lu_layout.proofs.Below.{IsCount-le, IsCount-below_of}
-use Rattle.lu_client_rows.specs.Stripes.{below_on}
+use Rattle.lu_spec_client.specs.Stripes.{below_on}
 use Rattle.lu_client_store.proofs.Striping.{below_is}
 
 pub below-le : (l : Raid0) (i n : ℕ) → IsLayout l → i < length l.targets → below_on l i n ≤ n

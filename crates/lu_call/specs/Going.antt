@@ -1,9 +1,9 @@
 -- What a call does when it goes on: the entries of the client's rows that it makes, and what it leaves to its client.
 use Rattle.std.specs.Prelude.{◌≡◌, ℕ, ◌==◌, ◌&&◌, Bool, true, false, List, [], ◌∷◌, Option, Some, None}
 use Rattle.lu_msg.specs.declared.operations.Op.{Op}
-use Rattle.lu_words.specs.Carried.{Queued, Running}
-use Rattle.lu_words.specs.Words.{Entry, Told, Queues, Stands, Binds, Pins, Unpins, Changes, WritesBack, Shows}
-use Rattle.lu_client_rows.specs.Advances.{queued_for}
+use Rattle.lu_spec_entries.specs.Carried.{Queued, Running}
+use Rattle.lu_spec_entries.specs.Words.{Entry, Told, Queues, Stands, Binds, Pins, Unpins, Changes, WritesBack, Shows}
+use Rattle.lu_spec_client.specs.Advances.{queued_for}
 use Rattle.lu_client_store.specs.Stored.{StoreState, stored_turn}
 use Rattle.lu_call.specs.declared.nexts.Next.{Next}
 use Rattle.lu_call.specs.declared.nexts.Next.TheVariants as next

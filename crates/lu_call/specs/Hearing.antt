@@ -7,8 +7,8 @@ use Rattle.lu_msg.specs.declared.messages.GrantNotice.{GrantNotice}
 use Rattle.lu_msg.specs.declared.messages.Message.TheVariants as message
 use Rattle.lu_held.specs.declared.names.LockName.{LockName}
 use Rattle.lu_held.specs.Locks.{named}
-use Rattle.lu_words.specs.Carried.{Stage, Plain, Waits, Running}
-use Rattle.lu_words.specs.Words.{Entry, Send, Hold, Settles, Stands}
+use Rattle.lu_spec_entries.specs.Carried.{Stage, Plain, Waits, Running}
+use Rattle.lu_spec_entries.specs.Words.{Entry, Send, Hold, Settles, Stands}
 use Rattle.lu_call.specs.declared.hearing.CameLock.{CameLock}
 
 -- it has no locks to look for

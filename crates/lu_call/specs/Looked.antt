@@ -2,11 +2,11 @@
 use Rattle.std.specs.Prelude.{◌≡◌, ℕ, List, [], ◌∷◌, ◌++◌, Option, Some, None}
 use Rattle.lu_held.specs.declared.locks.Use.{Use}
 use Rattle.lu_held.specs.declared.names.LockName.{LockName}
-use Rattle.lu_words.specs.Carried.{Work, Running}
-use Rattle.lu_words.specs.Words.{Entry}
-use Rattle.lu_client_rows.specs.States.{Store}
-use Rattle.lu_client_rows.specs.Starts.{pins}
-use Rattle.lu_client_rows.specs.Advances.{Next, asks_lock, looks}
+use Rattle.lu_spec_entries.specs.Carried.{Work, Running}
+use Rattle.lu_spec_entries.specs.Words.{Entry}
+use Rattle.lu_spec_client.specs.States.{Store}
+use Rattle.lu_spec_client.specs.Starts.{pins}
+use Rattle.lu_spec_client.specs.Advances.{Next, asks_lock, looks}
 use Rattle.lu_client_store.specs.Stored.{StoreState, stored_turn}
 
 -- the first lock that is still wanted
@@ -26,4 +26,5 @@ pub record Looked (wanted : Option Use) (old new : Running) (from to : Work) (be
   pub store : after ≡ stored_turn before (pins names)
   pub same : to ≡ record from { used = to.used; left = to.left }
   pub first : wanted ≡ first_left to.left
-  pub looks : (slot : ℕ) (next : Next) → looks slot next from.left old from before.store ≡ pins names ++ after_looking slot next wanted new to after.store
+  pub looks : (slot : ℕ) (next : Next) → looks slot next from.left old from before.store ≡ pins names
+      ++ after_looking slot next wanted new to after.store

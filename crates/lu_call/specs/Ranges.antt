@@ -7,9 +7,10 @@ use Rattle.lu_lock.specs.Overlap.{IsRange}
 use Rattle.lu_msg.specs.declared.calls.Call.{Call}
 use Rattle.lu_msg.specs.declared.calls.Call.TheVariants as call
 use Rattle.lu_held.specs.declared.locks.Use.{Use}
-use Rattle.lu_words.specs.declared.uses.Using.{Using}
-use Rattle.lu_words.specs.Carried.{Kind, Narrow, Wide, Writes, Cuts, Stats, Glimpses, Work, Stage, Looks, Enqueued, Waits, Came, Forgotten, Gets, Sizes}
-use Rattle.lu_client_rows.specs.Stripes.{object}
+use Rattle.lu_spec_entries.specs.declared.uses.Using.{Using}
+use Rattle.lu_spec_entries.specs.Carried.{Kind, Narrow, Wide, Writes, Cuts, Stats, Glimpses, Work, Stage, Looks, Enqueued, Waits, Came}
+use Rattle.lu_spec_entries.specs.Carried.{Forgotten, Gets, Sizes}
+use Rattle.lu_spec_client.specs.Stripes.{object}
 
 -- ---- numbers
 

@@ -7,13 +7,13 @@ use Rattle.lu_msg.specs.declared.answers.Answer.TheVariants as answer
 use Rattle.lu_msg.specs.declared.calls.Call.{Call}
 use Rattle.lu_msg.specs.declared.calls.Call.TheVariants as call
 use Rattle.lu_held.specs.declared.names.LockName.{LockName}
-use Rattle.lu_words.specs.Carried.{HandleFile, Kind, Narrow, Writes, Cuts, Glimpses, Work, Running}
-use Rattle.lu_words.specs.Words.{Entry}
-use Rattle.lu_client_rows.specs.Calls.{first_life}
-use Rattle.lu_client_rows.specs.Known.{name_of}
-use Rattle.lu_client_rows.specs.Slots.{is_close}
-use Rattle.lu_client_rows.specs.Starts.{count_on, starts_close, starts_bytes, starts_flush, starts_glimpse, starts_names, names_op}
-use Rattle.lu_client_rows.specs.States.{Client, Store}
+use Rattle.lu_spec_entries.specs.Carried.{HandleFile, Kind, Narrow, Writes, Cuts, Glimpses, Work, Running}
+use Rattle.lu_spec_entries.specs.Words.{Entry}
+use Rattle.lu_spec_client.specs.Calls.{first_life}
+use Rattle.lu_spec_client.specs.Known.{name_of}
+use Rattle.lu_spec_client.specs.Slots.{is_close}
+use Rattle.lu_spec_client.specs.Starts.{count_on, starts_close, starts_bytes, starts_flush, starts_glimpse, starts_names, names_op}
+use Rattle.lu_spec_client.specs.States.{Client, Store}
 use Rattle.lu_client_store.specs.Stored.{StoreState}
 
 -- A call reads no more of its client than the calls, what is known of names, and the store. A close that others

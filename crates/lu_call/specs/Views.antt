@@ -3,7 +3,9 @@ use Rattle.std.specs.Prelude.{List, Option, option_map}
 use Rattle.lu_base.specs.declared.ids.At.{At}
 use Rattle.lu_held.specs.declared.names.LockName.{LockName}
 use Rattle.lu_msg.specs.declared.calls.Call.{Call}
-use Rattle.lu_words.specs.Carried.{HandleFile as RowFile, Kind as RowKind, Narrow, Wide, Writes, Cuts, Stats, Glimpses, Work as RowWork, Asking as RowAsking, Unasked, Asked, Answered, Stage as RowStage, Plain, Looks, Enqueued, Waits, Came, Forgotten, Gets, Flushing, Sizes, Running}
+use Rattle.lu_spec_entries.specs.Carried.{HandleFile as RowFile, Kind as RowKind, Narrow, Wide, Writes, Cuts, Stats, Glimpses}
+use Rattle.lu_spec_entries.specs.Carried.{Work as RowWork, Asking as RowAsking, Unasked, Asked, Answered, Stage as RowStage, Plain, Looks}
+use Rattle.lu_spec_entries.specs.Carried.{Enqueued, Waits, Came, Forgotten, Gets, Flushing, Sizes, Running}
 use Rattle.lu_call.specs.declared.works.HandleFile.{HandleFile}
 use Rattle.lu_call.specs.declared.works.Kind.{Kind}
 use Rattle.lu_call.specs.declared.works.Kind.TheVariants as kind

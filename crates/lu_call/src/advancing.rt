@@ -2,12 +2,12 @@
 
 ghost use Rattle.std.specs.Prelude.{◌≡◌, ℕ, [], IfOk};
 ghost use Rattle.lu_msg.specs.declared.answers.Answer.TheVariants as answer;
-ghost use Rattle.lu_words.specs.Carried.{Sizes, Flushing};
-ghost use Rattle.lu_client_rows.specs.Advances.{at_stage};
-ghost use Rattle.lu_client_rows.specs.Glimpses.{glimpse_hears};
-ghost use Rattle.lu_client_rows.specs.Slots.{goes_at};
-ghost use Rattle.lu_client_rows.specs.Starts.{looks_at, comes_at, sizes_heard, goes_plain};
-ghost use Rattle.lu_client_rows.specs.WriteBack.{flushing};
+ghost use Rattle.lu_spec_entries.specs.Carried.{Sizes, Flushing};
+ghost use Rattle.lu_spec_client.specs.Advances.{at_stage};
+ghost use Rattle.lu_spec_client.specs.Glimpses.{glimpse_hears};
+ghost use Rattle.lu_spec_client.specs.Slots.{goes_at};
+ghost use Rattle.lu_spec_client.specs.Starts.{looks_at, comes_at, sizes_heard, goes_plain};
+ghost use Rattle.lu_spec_client.specs.WriteBack.{flushing};
 ghost use Rattle.lu_call.specs.Going.{GoesBy, GoesFrom};
 ghost use Rattle.lu_call.specs.Ranges.{IsLooking, IsWanting, IsSizing, is_glimpse};
 ghost use Rattle.lu_call.specs.Starting.{alone, sizes_of, glimpsing};

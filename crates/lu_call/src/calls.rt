@@ -1,9 +1,9 @@
 //! A call that isn't told.
 
 ghost use Rattle.std.specs.Prelude.{◌≡◌, [], Some, option_map};
-ghost use Rattle.lu_words.specs.Carried.{HandleFile as RowFile, Unasked, Plain};
-ghost use Rattle.lu_client_rows.specs.Slots.{is_close, opens};
-ghost use Rattle.lu_client_rows.specs.Starts.{is_on};
+ghost use Rattle.lu_spec_entries.specs.Carried.{HandleFile as RowFile, Unasked, Plain};
+ghost use Rattle.lu_spec_client.specs.Slots.{is_close, opens};
+ghost use Rattle.lu_spec_client.specs.Starts.{is_on};
 ghost use Rattle.lu_call.specs.Hearing.{is_plain};
 ghost use Rattle.lu_call.specs.Ranges.{IsCall};
 ghost use Rattle.lu_call.specs.Views.{file_of};
@@ -71,7 +71,7 @@ pub struct CallState {
 }
 
 impl Model for CallState {
-    ghost use Rattle.lu_words.specs.Carried.{Running};
+    ghost use Rattle.lu_spec_entries.specs.Carried.{Running};
     ghost use Rattle.lu_call.specs.Ranges.{IsSound};
     ghost use Rattle.lu_call.specs.Views.{running_of, stage_of};
 

@@ -2,11 +2,11 @@
 
 ghost use Rattle.std.specs.Prelude.{◌≡◌, ℕ, false, drop, IfOk};
 ghost use Rattle.lu_base.specs.declared.ids.At.{At as AtOf};
-ghost use Rattle.lu_words.specs.Carried.{Running};
-ghost use Rattle.lu_client_rows.specs.Caches.{patch_at};
-ghost use Rattle.lu_client_rows.specs.Patches.{in_flight};
-ghost use Rattle.lu_client_rows.specs.Stripes.{stripes, object};
-ghost use Rattle.lu_client_rows.specs.WriteBack.{flush_from};
+ghost use Rattle.lu_spec_entries.specs.Carried.{Running};
+ghost use Rattle.lu_spec_client.specs.Caches.{patch_at};
+ghost use Rattle.lu_spec_client.specs.Patches.{in_flight};
+ghost use Rattle.lu_spec_client.specs.Stripes.{stripes, object};
+ghost use Rattle.lu_spec_client.specs.WriteBack.{flush_from};
 ghost use Rattle.lu_call.specs.Flushed.{is_written, flush_object, flush_stripe, flush_at};
 ghost use Rattle.lu_call.specs.Going.{GoesBy};
 ghost use Rattle.lu_call.specs.Views.{file_of};

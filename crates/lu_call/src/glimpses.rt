@@ -2,8 +2,8 @@
 
 ghost use Rattle.std.specs.Prelude.{◌≡◌, ◌<◌, ◌++◌, [], ◌∷◌, ℕ, List, drop, length, IfOk, OnOk, IfSome, IfNone};
 ghost use Rattle.lu_msg.specs.declared.answers.Answer.TheVariants as answer;
-ghost use Rattle.lu_client_rows.specs.Glimpses.{glimpses, glimpse_asks, glimpse_comes, glimpse_hears};
-ghost use Rattle.lu_client_rows.specs.Looks.{size_under};
+ghost use Rattle.lu_spec_client.specs.Glimpses.{glimpses, glimpse_asks, glimpse_comes, glimpse_hears};
+ghost use Rattle.lu_spec_client.specs.Looks.{size_under};
 ghost use Rattle.lu_client_store.specs.Stored.{StoreState};
 ghost use Rattle.lu_call.specs.Glimpsed.{Glimpsed, GlimpsesOn, GlimpsesNoMore, asks_for_size};
 ghost use Rattle.lu_call.specs.Going.{GoesBy};

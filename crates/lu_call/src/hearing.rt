@@ -2,11 +2,11 @@
 
 ghost use Rattle.std.specs.Prelude.{◌≡◌, ℕ, [], ◌∷◌, Option, Some, OnOk, OnErr, IfNone};
 ghost use Rattle.lu_base.specs.declared.ids.Who.{Who as WhoOf};
-ghost use Rattle.lu_words.specs.Carried.{Flight, Enqueued, Forgotten, Running};
-ghost use Rattle.lu_words.specs.Words.{Heard};
-ghost use Rattle.lu_client_rows.specs.Advances.{at_stage};
-ghost use Rattle.lu_client_rows.specs.Messages as rows;
-ghost use Rattle.lu_client_rows.specs.Recovery.{forgets_stage, looks_stage, where_stage};
+ghost use Rattle.lu_spec_entries.specs.Carried.{Flight, Enqueued, Forgotten, Running};
+ghost use Rattle.lu_spec_entries.specs.Words.{Heard};
+ghost use Rattle.lu_spec_client.specs.Advances.{at_stage};
+ghost use Rattle.lu_spec_client.specs.Messages as rows;
+ghost use Rattle.lu_spec_client.specs.Recovery.{forgets_stage, looks_stage, where_stage};
 ghost use Rattle.lu_call.specs.Ranges.{IsWanting, IsStage};
 ghost use Rattle.lu_call.specs.Views.{work_of, stage_of};
 ghost use Rattle.lu_call.specs.Turning.{call_turn};

@@ -1,10 +1,10 @@
 //! How a call on bytes looks for its locks, and is told.
 
 ghost use Rattle.std.specs.Prelude.{◌≡◌, ℕ, ◌<◌, drop, length, Option, IfOk, OnOk};
-ghost use Rattle.lu_words.specs.Carried.{Work as RowWork};
-ghost use Rattle.lu_words.specs.Words.{Pins};
-ghost use Rattle.lu_client_rows.specs.Advances.{name_under, pinned, using, unpins, enqueue_of, asks_lock, tells};
-ghost use Rattle.lu_client_rows.specs.Advances.{looks, comes, acts};
+ghost use Rattle.lu_spec_entries.specs.Carried.{Work as RowWork};
+ghost use Rattle.lu_spec_entries.specs.Words.{Pins};
+ghost use Rattle.lu_spec_client.specs.Advances.{name_under, pinned, using, unpins, enqueue_of, asks_lock, tells};
+ghost use Rattle.lu_spec_client.specs.Advances.{looks, comes, acts};
 ghost use Rattle.lu_client_store.specs.Stored.{StoreState, stored_after, stored_turn};
 ghost use Rattle.lu_call.specs.Going.{GoesBy};
 ghost use Rattle.lu_call.specs.Looked.{Looked};
@@ -18,7 +18,7 @@ use lu_base::{At, Lock, Memory, Policy};
 use lu_client_store::Store;
 use lu_held::{LockName, Use};
 use lu_msg::{Answer, Op};
-use lu_words::Using;
+use lu_spec_entries::Using;
 
 /// What a lock is asked for by. A want of bits, which no call on bytes has, asks for the object's size.
 fn enqueue_of(wanted: Use) -> Op

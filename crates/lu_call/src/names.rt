@@ -3,12 +3,12 @@
 ghost use Rattle.std.specs.Prelude.{◌≡◌, ℕ, List, IfOk, OnOk};
 ghost use Rattle.lu_base.specs.declared.ids.Cookie.{Cookie as CookieOf};
 ghost use Rattle.lu_cache.specs.Tells.{notes, known_on, known_of, locks_of, of_file};
-ghost use Rattle.lu_client_rows.specs.Known.{Known as RowKnown, KnownFile, found_at_path, directory_known, names_of};
-ghost use Rattle.lu_client_rows.specs.Starts.{asks_names, names_op, starts_known, starts_stat};
-ghost use Rattle.lu_client_rows.specs.Starts.{pins, with_pins, tells_known, stats};
-ghost use Rattle.lu_words.specs.Carried.{Stats};
-ghost use Rattle.lu_words.specs.Words.{Pins};
-ghost use Rattle.lu_client_rows.specs.Advances.{pinned};
+ghost use Rattle.lu_spec_client.specs.Known.{Known as RowKnown, KnownFile, found_at_path, directory_known, names_of};
+ghost use Rattle.lu_spec_client.specs.Starts.{asks_names, names_op, starts_known, starts_stat};
+ghost use Rattle.lu_spec_client.specs.Starts.{pins, with_pins, tells_known, stats};
+ghost use Rattle.lu_spec_entries.specs.Carried.{Stats};
+ghost use Rattle.lu_spec_entries.specs.Words.{Pins};
+ghost use Rattle.lu_spec_client.specs.Advances.{pinned};
 ghost use Rattle.lu_client_store.specs.Stored.{StoreState, stored_after, stored_turn};
 ghost use Rattle.lu_call.specs.Going.{GoesBy, GoesFrom};
 ghost use Rattle.lu_call.specs.Starting.{names_with, is_file};

@@ -1,10 +1,10 @@
 //! A call whose locks are all in use acts: reads, and sizes that are told.
 
 ghost use Rattle.std.specs.Prelude.{◌≡◌, ◌≤◌, ◌-◌, min, ℕ, [], IfOk};
-ghost use Rattle.lu_words.specs.Carried.{Stats};
-ghost use Rattle.lu_client_rows.specs.Stripes.{stripes};
-ghost use Rattle.lu_client_rows.specs.Looks.{content, file_size};
-ghost use Rattle.lu_client_rows.specs.Advances.{acts, gets, reads_wide, reads_narrow, unpins, widens};
+ghost use Rattle.lu_spec_entries.specs.Carried.{Stats};
+ghost use Rattle.lu_spec_client.specs.Stripes.{stripes};
+ghost use Rattle.lu_spec_client.specs.Looks.{content, file_size};
+ghost use Rattle.lu_spec_client.specs.Advances.{acts, gets, reads_wide, reads_narrow, unpins, widens};
 ghost use Rattle.lu_client_store.specs.Stored.{StoreState, stored_turn};
 ghost use Rattle.lu_client_store.specs.Pages.{page_of};
 ghost use Rattle.lu_call.specs.Going.{GoesBy};
@@ -18,7 +18,7 @@ use super::works::{Kind, Work};
 use lu_base::{At, Bytes, Memory};
 use lu_client_store::Store;
 use lu_msg::{Answer, Op};
-use lu_words::Using;
+use lu_spec_entries::Using;
 use std::cmp::min;
 
 /// How many of the bytes from an offset on lie before the end of a file of this size.

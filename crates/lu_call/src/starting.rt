@@ -1,8 +1,8 @@
 //! What a call does first, and what it makes of the metadata target's answer.
 
 ghost use Rattle.std.specs.Prelude.{◌≡◌, ℕ, false, [], ◌∷◌, Some, IfOk};
-ghost use Rattle.lu_client_rows.specs.Starts.{starts_close, starts_bytes, starts_flush, starts_glimpse};
-ghost use Rattle.lu_client_rows.specs.Starts.{starts, answers};
+ghost use Rattle.lu_spec_client.specs.Starts.{starts_close, starts_bytes, starts_flush, starts_glimpse};
+ghost use Rattle.lu_spec_client.specs.Starts.{starts, answers};
 ghost use Rattle.lu_base.specs.declared.ids.At.{At as AtOf};
 ghost use Rattle.lu_client_store.specs.Stored.{StoreState};
 ghost use Rattle.lu_msg.specs.declared.answers.Answer.TheVariants as answer;

@@ -3,10 +3,10 @@
 ghost use Rattle.std.specs.Prelude.{◌≡◌, ◌≤◌, ◌<◌, ◌^◌, [], ◌∷◌, length, IfOk};
 ghost use Rattle.std.specs.Option.{option_to_list};
 ghost use Rattle.lu_layout.specs.Sound.{IsLayout};
-ghost use Rattle.lu_client_rows.specs.Patches.{to_end};
-ghost use Rattle.lu_client_rows.specs.Starts.{work_on};
-ghost use Rattle.lu_client_rows.specs.Stripes.{below_on};
-ghost use Rattle.lu_client_rows.specs.Wants.{want, wants_piece, wants_on, wants_of};
+ghost use Rattle.lu_spec_client.specs.Patches.{to_end};
+ghost use Rattle.lu_spec_client.specs.Starts.{work_on};
+ghost use Rattle.lu_spec_client.specs.Stripes.{below_on};
+ghost use Rattle.lu_spec_client.specs.Wants.{want, wants_piece, wants_on, wants_of};
 ghost use Rattle.lu_call.specs.Ranges.{IsInRange, IsWork};
 ghost use Rattle.lu_call.specs.Views.{kind_of, work_of};
 

@@ -3,7 +3,7 @@
 use lu_base::{Bytes, Fid, Numbers, Txn};
 use lu_held::Use;
 use lu_layout::Layout;
-use lu_words::Using;
+use lu_spec_entries::Using;
 use std::collections::VecDeque;
 
 /// The file of a handle.

@@ -1,8 +1,8 @@
 //! A call whose locks are all in use acts: writes and cuts.
 
 ghost use Rattle.std.specs.Prelude.{◌≤◌, ◌^◌, ℕ, All, length, IfOk};
-ghost use Rattle.lu_words.specs.Carried.{Writes, Cuts};
-ghost use Rattle.lu_client_rows.specs.Advances.{acts};
+ghost use Rattle.lu_spec_entries.specs.Carried.{Writes, Cuts};
+ghost use Rattle.lu_spec_client.specs.Advances.{acts};
 ghost use Rattle.lu_call.specs.Going.{GoesBy};
 ghost use Rattle.lu_call.specs.Ranges.{IsSpan, IsUsing};
 ghost use Rattle.lu_call.specs.Views.{work_of};

@@ -1,5 +1,6 @@
 -- What ends with some lives: what is outstanding of their locks, and the glimpses for their requests.
-use Rattle.std.proofs.Common.{◌≡◌, ℕ, zero, suc, ◌+◌, ◌≤◌, ◌==◌, ◌||◌, Bool, true, false, not, cond, List, [], ◌∷◌, ◌++◌, length, filter, refl, ap, sym, subst, ◌∙◌, arith}
+use Rattle.std.proofs.Common.{◌≡◌, ℕ, zero, suc, ◌+◌, ◌≤◌, ◌==◌, ◌||◌, Bool, true, false, not, cond, List, [], ◌∷◌, ◌++◌, length, filter}
+use Rattle.std.proofs.Common.{refl, ap, sym, subst, ◌∙◌, arith}
 use Rattle.std.specs.Prelude.{All}
 use Rattle.std.specs.List.{list_any}
 use Rattle.std.specs.Map.Calls.{RetainsPairs}
@@ -19,14 +20,18 @@ of_none [] = refl
 of_none (asked ∷ callbacks) = ap (λ more. asked ∷ more) (of_none callbacks)
 
 -- of one lock, and then of others
-pub of_next : (cookie : Cookie) (cookies : List Cookie) (callbacks : List Asked) → without_locks cookies (without cookie callbacks) ≡ without_locks (cookie ∷ cookies) callbacks
+pub of_next : (cookie : Cookie) (cookies : List Cookie) (callbacks : List Asked) → without_locks cookies (without cookie callbacks)
+    ≡ without_locks (cookie ∷ cookies) callbacks
 of_next cookie cookies [] = refl
-of_next cookie cookies (asked ∷ callbacks) = by (asked.cookie.0 == cookie.0) (is_of_locks cookies asked) refl (of_next cookie cookies callbacks) where
-  by : (here other : Bool) → is_of_locks cookies asked ≡ other → without_locks cookies (without cookie callbacks) ≡ without_locks (cookie ∷ cookies) callbacks
-      → without_locks cookies (cond (not here) (asked ∷ without cookie callbacks) (without cookie callbacks)) ≡ cond (not (here || other)) (asked ∷ without_locks (cookie ∷ cookies) callbacks) (without_locks (cookie ∷ cookies) callbacks)
-  by true other e rest = rest
-  by false true e rest = rw e rest
-  by false false e rest = rw e (ap (λ more. asked ∷ more) rest)
+of_next cookie cookies (asked ∷ callbacks) = by (asked.cookie.0 == cookie.0) (is_of_locks cookies asked) refl
+    (of_next cookie cookies callbacks) where
+      by : (here other : Bool) → is_of_locks cookies asked ≡ other → without_locks cookies (without cookie callbacks)
+          ≡ without_locks (cookie ∷ cookies) callbacks
+          → without_locks cookies (cond (not here) (asked ∷ without cookie callbacks) (without cookie callbacks))
+          ≡ cond (not (here || other)) (asked ∷ without_locks (cookie ∷ cookies) callbacks) (without_locks (cookie ∷ cookies) callbacks)
+      by true other e rest = rest
+      by false true e rest = rw e rest
+      by false false e rest = rw e (ap (λ more. asked ∷ more) rest)
 
 -- ---- the glimpses for requests of some lives
 
@@ -49,7 +54,8 @@ module _ (lives : List Who) where
     pub filed : (n : ℕ) → IsFiled n old → IsFiled n new
     pub all : all_asked new ≡ without_lives lives (all_asked old)
 
-  pub ended : {F : Type 0} (T : F → Cookie → List Asked → Bool → List Asked → F → Type 0) (f : F) → ((k : Cookie) (v : List Asked) (b : Bool) (w : List Asked) (f' : F) → T f k v b w f' → Ends f v b w f')
+  pub ended : {F : Type 0} (T : F → Cookie → List Asked → Bool → List Asked → F → Type 0) (f : F)
+      → ((k : Cookie) (v : List Asked) (b : Bool) (w : List Asked) (f' : F) → T f k v b w f' → Ends f v b w f')
       → (old new : Entries) → RetainsPairs T f old new → AreEnded old new
   ended T f step [] new kept = record { filed = λ n filed. subst (IsFiled n) (sym kept) tt; all = ap all_asked kept }
   ended T f step (entry ∷ old) new (b, w, f', rest, called, more, kept) =
@@ -66,7 +72,8 @@ module _ (lives : List Who) where
       of_key : (w : List Asked) → w ≡ without_lives lives entry.1 → All (Of entry.0.0) entry.1 → All (Of entry.0.0) w
       of_key w is of = subst (All (Of entry.0.0)) (sym is) (All-filter outlives (Of entry.0.0) entry.1 of)
 
-      by : (b : Bool) → b ≡ not (length w == 0) → w ≡ without_lives lives entry.1 → AreEnded old rest → AreEnded (entry ∷ old) (cond b ((entry.0, w) ∷ rest) rest)
+      by : (b : Bool) → b ≡ not (length w == 0) → w ≡ without_lives lives entry.1 → AreEnded old rest
+          → AreEnded (entry ∷ old) (cond b ((entry.0, w) ∷ rest) rest)
       by true left is later = record {
         filed = λ n filed. (filed.0, of_key w is filed.1, later.filed (entry.0.0 + 1) filed.2);
         all = ap (λ xs. xs ++ all_asked rest) is ∙ ap (λ more. without_lives lives entry.1 ++ more) later.all ∙ sym split;

@@ -1,6 +1,7 @@
 -- What a target has asked of the holders of its locks and isn't answered yet (Wang et al., Understanding Lustre
 -- Filesystem Internals, the lock manager: blocking and glimpse callbacks; the order is this project's profile).
-use Rattle.std.specs.Prelude.{◌≡◌, ℕ, ◌+◌, ◌==◌, ◌&&◌, ◌||◌, nat_lt, nat_le, if◌then◌else◌, Bool, true, false, not, List, [], ◌∷◌, map, filter, AllPairs}
+use Rattle.std.specs.Prelude.{◌≡◌, ℕ, ◌+◌, ◌==◌, ◌&&◌, ◌||◌, nat_lt, nat_le, if◌then◌else◌, Bool, true, false, not, List, [], ◌∷◌, map}
+use Rattle.std.specs.Prelude.{filter, AllPairs}
 use Rattle.std.specs.List.{list_any}
 use Rattle.lu_base.specs.declared.ids.Cookie.{Cookie}
 use Rattle.lu_base.specs.declared.ids.Who.{Who}

@@ -1,16 +1,19 @@
 -- An object's changes stay below 2^40: what each step makes of a patch that lies below it, and what is written back.
-use Rattle.std.proofs.Common.{◌≡◌, ℕ, zero, suc, ◌+◌, ◌-◌, ◌%◌, ◌^◌, ◌≤◌, ◌==◌, nat_lt, nat_le, Bool, true, false, cond, List, [], ◌∷◌, ◌++◌, length, filter, take, Option, Some, None, is_some, refl, sym, subst, arith}
+use Rattle.std.proofs.Common.{◌≡◌, ℕ, zero, suc, ◌+◌, ◌-◌, ◌%◌, ◌^◌, ◌≤◌, ◌==◌, nat_lt, nat_le, Bool, true, false, cond, List, [], ◌∷◌}
+use Rattle.std.proofs.Common.{◌++◌, length, filter, take, Option, Some, None, is_some, refl, sym, subst, arith}
 use Rattle.std.specs.Prelude.{max, min, not, if◌then◌else◌, IfSome, Result, Ok, Err, IfOk, OnOk, OnErr}
 use Rattle.std.proofs.lemmas.List.{length-map, length-take}
 use Rattle.std.proofs.lemmas.Bool.Decides.{nat_tests}
 use Rattle.lu_base.specs.declared.locks.Extent.{Extent}
-use Rattle.lu_words.specs.declared.changes.Dirty.{Dirty}
-use Rattle.lu_words.specs.declared.changes.Flush.{Flush}
-use Rattle.lu_words.specs.declared.changes.Flush.TheVariants.{Cut, Put}
-use Rattle.lu_machine.specs.Places.{Places, found_at, below, from, placed, laid, is_in, inside, end_of}
-use Rattle.lu_client_rows.specs.Bytes.{page_size, run_from}
-use Rattle.lu_client_rows.specs.Patches.{Patch, Flying, CutFlies, BytesFly, clean, fresh, written, ended, cut_over, cut, base, size_over, cut_extent, holds_extent, cut_within, bytes_of, flush_with, next_flush, sent, flown, taken, other_cut, landed, acked_flight, acked}
-use Rattle.lu_client_rows.specs.Caches.{made}
+use Rattle.lu_spec_entries.specs.declared.changes.Dirty.{Dirty}
+use Rattle.lu_spec_entries.specs.declared.changes.Flush.{Flush}
+use Rattle.lu_spec_entries.specs.declared.changes.Flush.TheVariants.{Cut, Put}
+use Rattle.lu_spec_machine.specs.Places.{Places, found_at, below, from, placed, laid, is_in, inside, end_of}
+use Rattle.lu_spec_client.specs.Bytes.{page_size, run_from}
+use Rattle.lu_spec_client.specs.Patches.{Patch, Flying, CutFlies, BytesFly, clean, fresh, written, ended, cut_over, cut, base, size_over}
+use Rattle.lu_spec_client.specs.Patches.{cut_extent, holds_extent, cut_within, bytes_of, flush_with, next_flush, sent, flown, taken}
+use Rattle.lu_spec_client.specs.Patches.{other_cut, landed, acked_flight, acked}
+use Rattle.lu_spec_client.specs.Caches.{made}
 use Rattle.lu_client_store.specs.Stored.{IsInFile}
 use Rattle.lu_client_store.specs.Bounds.{IsBounded}
 
@@ -37,8 +40,10 @@ end_laid {A} n at xs m fits short =
     let low : end_of (below at m) ≤ end_of m = end_filtered (λ (e : ℕ × A). nat_lt e.0 at) m in
     let high : end_of (from (at + length xs) m) ≤ end_of m = end_filtered (λ (e : ℕ × A). nat_le (at + length xs) e.0) m in
     let put : end_of (placed at xs) ≤ at + length xs = end_placed at xs in
-    let all : end_of (laid at xs m) ≡ max (end_of (below at m)) (end_of (placed at xs ++ from (at + length xs) m)) = end_on (below at m) (placed at xs ++ from (at + length xs) m) in
-    let rest : end_of (placed at xs ++ from (at + length xs) m) ≡ max (end_of (placed at xs)) (end_of (from (at + length xs) m)) = end_on (placed at xs) (from (at + length xs) m) in
+    let all : end_of (laid at xs m) ≡ max (end_of (below at m)) (end_of (placed at xs ++ from (at + length xs) m)) =
+    end_on (below at m) (placed at xs ++ from (at + length xs) m) in
+    let rest : end_of (placed at xs ++ from (at + length xs) m) ≡ max (end_of (placed at xs)) (end_of (from (at + length xs) m)) =
+    end_on (placed at xs) (from (at + length xs) m) in
     omega (arith, fits, short, low, high, put, all, rest)
 
 -- an unbroken run ends before the end
@@ -46,7 +51,8 @@ run_ends : {A : Type 0} (p : ℕ) (m : Places A) → p + length (run_from p m) �
 run_ends p [] = omega arith
 run_ends {A} p (e ∷ m) = by (e.0 == p) refl (run_ends (p + 1) m)
   where
-    by : (v : Bool) → (e.0 == p) ≡ v → p + 1 + length (run_from (p + 1) m) ≤ max (p + 1) (end_of m) → p + length (if v then e.1 ∷ run_from (p + 1) m else []) ≤ max p (max (e.0 + 1) (end_of m))
+    by : (v : Bool) → (e.0 == p) ≡ v → p + 1 + length (run_from (p + 1) m) ≤ max (p + 1) (end_of m)
+        → p + length (if v then e.1 ∷ run_from (p + 1) m else []) ≤ max p (max (e.0 + 1) (end_of m))
     by true is rest = let same : e.0 ≡ p = grind (arith, nat_tests) in omega (arith, same, rest)
     by false is rest = omega arith
 
@@ -76,7 +82,8 @@ bounded_cut_over n p (Some q) fits good = by (nat_lt q n)
 bounded_cut : (n : ℕ) (p : Patch) → n ≤ 2 ^ 40 → IsBounded p → IsBounded (cut n p)
 bounded_cut n p fits good =
     let low : end_of (below n p.dirty) ≤ end_of p.dirty = end_filtered (λ (e : ℕ × Dirty). nat_lt e.0 n) p.dirty in
-    bounded_cut_over n (record p { dirty = below n p.dirty }) p.pending fits (record { pending = good.pending; dirty = omega (arith, low, good.dirty) })
+    bounded_cut_over n (record p { dirty = below n p.dirty }) p.pending fits
+    (record { pending = good.pending; dirty = omega (arith, low, good.dirty) })
 
 bounded_made : (change : Flush) (p : Patch) → IsInFile change → IsBounded p → IsBounded (made change p)
 bounded_made (Cut n) p fits good = bounded_cut n p fits good
@@ -85,7 +92,8 @@ bounded_made (Put at bs) p fits good = bounded_written at bs p fits good
 -- ---- a write-back
 
 -- what is written back lies below it
-within_pending : (within : Extent) (pending : Option ℕ) → IfSome pending (λ (n : ℕ). n ≤ 2 ^ 40) → IfSome (cut_within within pending) (λ (n : ℕ). n ≤ 2 ^ 40)
+within_pending : (within : Extent) (pending : Option ℕ) → IfSome pending (λ (n : ℕ). n ≤ 2 ^ 40)
+    → IfSome (cut_within within pending) (λ (n : ℕ). n ≤ 2 ^ 40)
 within_pending within None good = tt
 within_pending within (Some q) good = by (holds_extent within (cut_extent q))
   where
@@ -99,14 +107,16 @@ flush_in_file None [] good short = tt
 flush_in_file None (e ∷ m) good short =
     let run : List Dirty = take (page_size - e.0 % page_size) (run_from e.0 (e ∷ m)) in
     let count : length (bytes_of run) ≡ length run = length-map run (λ (d : Dirty). d.byte) in
-    let less : length run ≡ min (page_size - e.0 % page_size) (length (run_from e.0 (e ∷ m))) = length-take (page_size - e.0 % page_size) (run_from e.0 (e ∷ m)) in
+    let less : length run ≡ min (page_size - e.0 % page_size) (length (run_from e.0 (e ∷ m))) =
+    length-take (page_size - e.0 % page_size) (run_from e.0 (e ∷ m)) in
     let ends : e.0 + length (run_from e.0 (e ∷ m)) ≤ max e.0 (end_of (e ∷ m)) = run_ends e.0 (e ∷ m) in
     omega (arith, count, less, ends, short)
 
 pub next_in_file : (within : Extent) (p : Patch) → IsBounded p → IfSome (next_flush within p) IsInFile
 next_in_file within p good =
     let less : end_of (inside within p.dirty) ≤ end_of p.dirty = end_filtered (λ (e : ℕ × Dirty). is_in within e.0) p.dirty in
-    flush_in_file (cut_within within p.pending) (inside within p.dirty) (within_pending within p.pending good.pending) (omega (arith, less, good.dirty))
+    flush_in_file (cut_within within p.pending) (inside within p.dirty) (within_pending within p.pending good.pending)
+    (omega (arith, less, good.dirty))
 
 bounded_flown : (flush : Flush) (p : Patch) → IsInFile flush → IsBounded p → IsBounded (flown flush p)
 bounded_flown (Cut n) p fits good = record { pending = good.pending; dirty = good.dirty }
@@ -153,13 +163,18 @@ bounded_clean = record { pending = tt; dirty = omega arith }
 
 -- ---- a change that may have failed
 
-made_or_kept : {T E : Type 0} (r : Result T E) (old made new : Patch) → OnOk r (new ≡ made) → OnErr r (new ≡ old) → IsBounded made → IsBounded old → IsBounded new
+made_or_kept : {T E : Type 0} (r : Result T E) (old made new : Patch) → OnOk r (new ≡ made) → OnErr r (new ≡ old) → IsBounded made
+    → IsBounded old → IsBounded new
 made_or_kept (Ok x) old made new ok err good before = subst IsBounded (sym ok) good
 made_or_kept (Err x) old made new ok err good before = subst IsBounded (sym err) before
 
-pub bounded_changed : {T E : Type 0} (r : Result T E) (change : Flush) (old new : Patch) → OnOk r (new ≡ made change old) → OnErr r (new ≡ old) → IsInFile change → IsBounded old → IsBounded new
+pub bounded_changed : {T E : Type 0} (r : Result T E) (change : Flush) (old new : Patch) → OnOk r (new ≡ made change old)
+    → OnErr r (new ≡ old) → IsInFile change → IsBounded old → IsBounded new
 bounded_changed r change old new ok err fits good = made_or_kept r old (made change old) new ok err (bounded_made change old fits good) good
 
-pub bounded_sent : {E : Type 0} (r : Result (Option Flush) E) (within : Extent) (old new : Patch) → IfOk r (λ flush. flush ≡ next_flush within old) → IfOk r (λ flush. new ≡ taken flush old) → OnErr r (new ≡ old) → IsBounded old → IsBounded new
-bounded_sent (Ok flush) within old new is ok err good = subst IsBounded (sym ok) (bounded_taken flush old (subst (λ (o : Option Flush). IfSome o IsInFile) (sym is) (next_in_file within old good)) good)
+pub bounded_sent : {E : Type 0} (r : Result (Option Flush) E) (within : Extent) (old new : Patch)
+    → IfOk r (λ flush. flush ≡ next_flush within old) → IfOk r (λ flush. new ≡ taken flush old) → OnErr r (new ≡ old) → IsBounded old
+    → IsBounded new
+bounded_sent (Ok flush) within old new is ok err good = subst IsBounded (sym ok)
+    (bounded_taken flush old (subst (λ (o : Option Flush). IfSome o IsInFile) (sym is) (next_in_file within old good)) good)
 bounded_sent (Err x) within old new is ok err good = subst IsBounded (sym err) good

@@ -2,7 +2,7 @@
 use Rattle.std.proofs.Common.{List}
 use Rattle.lu_base.specs.declared.locks.Resource.{Resource}
 use Rattle.lu_held.specs.Held.{HeldState}
-use Rattle.lu_client_rows.specs.Patches.{Patch}
+use Rattle.lu_spec_client.specs.Patches.{Patch}
 use Rattle.lu_cache.specs.Cached.{Cached}
 use Rattle.lu_client_store.specs.Stored.{StoreState}
 

@@ -1,8 +1,8 @@
 -- How large what is kept may be: no file is longer than 2^40, so no size, no cut and no changed byte lies past it.
 use Rattle.std.specs.Prelude.{ℕ, ◌≤◌, ◌^◌, List, [], ◌∷◌, IfSome}
-use Rattle.lu_machine.specs.Places.{end_of}
-use Rattle.lu_client_rows.specs.Patches.{Patch}
-use Rattle.lu_client_rows.specs.Caches.{Note}
+use Rattle.lu_spec_machine.specs.Places.{end_of}
+use Rattle.lu_spec_client.specs.Patches.{Patch}
+use Rattle.lu_spec_client.specs.Caches.{Note}
 
 -- The changes of an object: the pending cut, if any, and the end of the dirty bytes.
 pub record IsBounded (p : Patch) : Type 0 where

@@ -1,10 +1,10 @@
 -- A page that is missing, as code answers it, and what is missing under one lock in use.
 use Rattle.std.specs.Prelude.{ℕ, Option}
 use Rattle.lu_layout.specs.Raid0.{Raid0}
-use Rattle.lu_words.specs.declared.uses.Using.{Using}
-use Rattle.lu_client_rows.specs.Stripes.{below_on}
-use Rattle.lu_client_rows.specs.States.{Store}
-use Rattle.lu_client_rows.specs.Looks.{Page, missing_under}
+use Rattle.lu_spec_entries.specs.declared.uses.Using.{Using}
+use Rattle.lu_spec_client.specs.Stripes.{below_on}
+use Rattle.lu_spec_client.specs.States.{Store}
+use Rattle.lu_spec_client.specs.Looks.{Page, missing_under}
 
 -- the lock in use on its stripe, and its number in its object
 abbrev pub page_of : Using × ℕ → Page

@@ -2,9 +2,9 @@
 use Rattle.std.specs.Prelude.{ℕ, zero, suc, ◌+◌, List, [], ◌∷◌, Option}
 use Rattle.std.specs.Option.{unwrap_or}
 use Rattle.lu_base.specs.declared.locks.Resource.{Resource}
-use Rattle.lu_client_rows.specs.Looks.{byte_on}
-use Rattle.lu_client_rows.specs.Patches.{Patch, reads_at}
-use Rattle.lu_client_rows.specs.States.{Store}
+use Rattle.lu_spec_client.specs.Looks.{byte_on}
+use Rattle.lu_spec_client.specs.Patches.{Patch, reads_at}
+use Rattle.lu_spec_client.specs.States.{Store}
 
 -- so many bytes from an offset on
 abbrev pub run_on : Resource → ℕ → ℕ → Store → List ℕ

@@ -5,14 +5,14 @@ use Rattle.lu_base.specs.declared.locks.Resource.{Resource}
 use Rattle.lu_held.specs.declared.names.LockName.{LockName}
 use Rattle.lu_held.specs.Locks.{is_free}
 use Rattle.lu_held.specs.Held.{HeldState}
-use Rattle.lu_words.specs.declared.changes.Flush.{Flush}
-use Rattle.lu_words.specs.declared.changes.Flush.TheVariants.{Cut, Put}
-use Rattle.lu_words.specs.Words.{Entry, Marks, WritesBack}
-use Rattle.lu_client_rows.specs.Facts.{Fact, facts_after}
-use Rattle.lu_client_rows.specs.Patches.{Patch}
-use Rattle.lu_client_rows.specs.Caches.{patches_after}
-use Rattle.lu_client_rows.specs.Locks.{marks_of}
-use Rattle.lu_client_rows.specs.States.{Store, empty_store, store_after}
+use Rattle.lu_spec_entries.specs.declared.changes.Flush.{Flush}
+use Rattle.lu_spec_entries.specs.declared.changes.Flush.TheVariants.{Cut, Put}
+use Rattle.lu_spec_entries.specs.Words.{Entry, Marks, WritesBack}
+use Rattle.lu_spec_client.specs.Facts.{Fact, facts_after}
+use Rattle.lu_spec_client.specs.Patches.{Patch}
+use Rattle.lu_spec_client.specs.Caches.{patches_after}
+use Rattle.lu_spec_client.specs.Locks.{marks_of}
+use Rattle.lu_spec_client.specs.States.{Store, empty_store, store_after}
 
 pub record StoreState : Type 0 where
   pub unused : ℕ

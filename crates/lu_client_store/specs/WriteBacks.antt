@@ -2,10 +2,10 @@
 use Rattle.std.specs.Prelude.{List, [], Option, Some, None}
 use Rattle.lu_base.specs.declared.locks.Extent.{Extent}
 use Rattle.lu_held.specs.declared.locks.HeldLock.{HeldLock}
-use Rattle.lu_words.specs.declared.changes.Flush.{Flush}
-use Rattle.lu_words.specs.Words.{Entry}
-use Rattle.lu_client_rows.specs.Patches.{Patch, next_flush}
-use Rattle.lu_client_rows.specs.WriteBack.{writes_back}
+use Rattle.lu_spec_entries.specs.declared.changes.Flush.{Flush}
+use Rattle.lu_spec_entries.specs.Words.{Entry}
+use Rattle.lu_spec_client.specs.Patches.{Patch, next_flush}
+use Rattle.lu_spec_client.specs.WriteBack.{writes_back}
 use Rattle.lu_client_store.specs.declared.flushes.WriteBack.{WriteBack}
 
 -- this change, under this held lock

@@ -2,17 +2,17 @@
 
 ghost use Rattle.std.specs.Prelude.{◌≡◌, ◌<◌, ◌≤◌, ◌+◌, ◌++◌, ◌%◌, ◌^◌, [], length, unwrap_or, IfOk, OnOk};
 ghost use Rattle.std.specs.Option.{option_copied};
-ghost use Rattle.lu_bytes.specs.Runs.{found_run};
-ghost use Rattle.lu_client_rows.specs.Caches.{bytes_at};
-ghost use Rattle.lu_client_rows.specs.Looks.{content};
-ghost use Rattle.lu_client_rows.specs.Patches.{clean};
+ghost use Rattle.lu_spec_bytes.specs.Runs.{found_run};
+ghost use Rattle.lu_spec_client.specs.Caches.{bytes_at};
+ghost use Rattle.lu_spec_client.specs.Looks.{content};
+ghost use Rattle.lu_spec_client.specs.Patches.{clean};
 ghost use Rattle.lu_client_store.specs.Runs.{seen_at, seen_run, run_on};
 
 use super::store::Store;
 use lu_base::{Bytes, Fid, Memory, Resource};
 use lu_layout::Layout;
+use lu_page::Places;
 use lu_patch::Patch;
-use lu_places::Places;
 use std::alloc::Global;
 use std::cmp::min;
 

@@ -2,9 +2,9 @@
 
 ghost use Rattle.std.specs.Prelude.{◌≡◌, List, ◌∷◌, false, option_map, IfOk, IfSome, OnErr};
 ghost use Rattle.lu_held.specs.declared.locks.HeldLock.{HeldLock as HeldOf};
-ghost use Rattle.lu_client_rows.specs.Patches.{Patch, in_flight};
-ghost use Rattle.lu_client_rows.specs.Caches.{patch_at};
-ghost use Rattle.lu_client_rows.specs.WriteBack.{operation, flush_under, flushes};
+ghost use Rattle.lu_spec_client.specs.Patches.{Patch, in_flight};
+ghost use Rattle.lu_spec_client.specs.Caches.{patch_at};
+ghost use Rattle.lu_spec_client.specs.WriteBack.{operation, flush_under, flushes};
 ghost use Rattle.lu_client_store.specs.Stored.{stored_turn, IsInFile};
 ghost use Rattle.lu_client_store.specs.WriteBacks.{back_under, backs, backs_or, next_in};
 
@@ -12,7 +12,7 @@ use super::store::Store;
 use lu_base::{Ask, Extent, Lock, Memory, Mode, Policy, Resource, TargetId};
 use lu_held::HeldLock;
 use lu_msg::Op;
-use lu_words::Flush;
+use lu_spec_entries::Flush;
 
 /// A change of an object that is written back, under a held lock of a target.
 #[derive(Debug, Drop)]

@@ -6,19 +6,19 @@ ghost use Rattle.lu_held.specs.declared.locks.Wanted.TheVariants as wanted;
 ghost use Rattle.lu_held.specs.Locks.{is_named, lock_of};
 ghost use Rattle.lu_held.specs.Held.{in_order, those, serving, IsOnce};
 ghost use Rattle.lu_cache.specs.Tells.{notes, known_on, known_of, locks_of};
-ghost use Rattle.lu_client_rows.specs.Known.{cookies_of_file};
-ghost use Rattle.lu_client_rows.specs.Patches.{clean, size_over, in_flight, has_change, dirty_in};
-ghost use Rattle.lu_client_rows.specs.Caches.{noted, bytes_at, patch_at};
-ghost use Rattle.lu_client_rows.specs.Locks.{dirty_total};
-ghost use Rattle.lu_client_rows.specs.WriteBack.{is_clean};
+ghost use Rattle.lu_spec_client.specs.Known.{cookies_of_file};
+ghost use Rattle.lu_spec_client.specs.Patches.{clean, size_over, in_flight, has_change, dirty_in};
+ghost use Rattle.lu_spec_client.specs.Caches.{noted, bytes_at, patch_at};
+ghost use Rattle.lu_spec_client.specs.Locks.{dirty_total};
+ghost use Rattle.lu_spec_client.specs.WriteBack.{is_clean};
 
 use super::store::Store;
 use lu_base::{Cookie, Cookies, Extent, Fid, Lock, Memory, Path, Resource, TargetId};
 use lu_cache::Known;
 use lu_held::{HeldLock, LockName, Use};
 use lu_msg::Op;
+use lu_page::Places;
 use lu_patch::Patch;
-use lu_places::Places;
 use std::alloc::Global;
 
 impl Store {

@@ -1,13 +1,13 @@
 //! A client's changes of one object, none past the greatest size of a file.
 
 ghost use Rattle.std.specs.Prelude.{◌≡◌, ◌≤◌, ◌^◌, false, length, IfOk, IfSome, OnOk, OnErr};
-ghost use Rattle.lu_client_rows.specs.Patches.{clean, size_over, in_flight, next_flush, taken, acked};
-ghost use Rattle.lu_client_rows.specs.Caches.{made};
+ghost use Rattle.lu_spec_client.specs.Patches.{clean, size_over, in_flight, next_flush, taken, acked};
+ghost use Rattle.lu_spec_client.specs.Caches.{made};
 ghost use Rattle.lu_client_store.specs.Stored.{IsInFile};
 
 use lu_base::{Extent, Memory};
 use lu_patch::Patch;
-use lu_words::Flush;
+use lu_spec_entries::Flush;
 use std::alloc::Global;
 use std::marker::Model;
 
@@ -18,7 +18,7 @@ pub(crate) struct ObjectPatch {
 }
 
 impl Model for ObjectPatch {
-    ghost use Rattle.lu_client_rows.specs.Patches.{Patch as Shown};
+    ghost use Rattle.lu_spec_client.specs.Patches.{Patch as Shown};
     ghost use Rattle.lu_client_store.specs.Bounds.{IsBounded};
 
     ghost Value = { Shown };

@@ -2,18 +2,17 @@
 
 ghost use Rattle.std.specs.Prelude.{◌≡◌, ◌<◌, ◌≤◌, ◌+◌, ◌^◌, [], All, length, option_map, unwrap_or};
 ghost use Rattle.std.specs.Option.{option_copied};
-ghost use Rattle.lu_client_rows.specs.Patches.{clean};
-ghost use Rattle.lu_client_rows.specs.Looks.{is_there, first_missing, end_under, missing_under, missing};
+ghost use Rattle.lu_spec_client.specs.Patches.{clean};
+ghost use Rattle.lu_spec_client.specs.Looks.{is_there, first_missing, end_under, missing_under, missing};
 ghost use Rattle.lu_held.specs.Locks.{reaches_end};
 ghost use Rattle.lu_client_store.specs.Pages.{page_of, missing_on};
 
 use super::store::Store;
 use lu_base::{Lock, Policy};
 use lu_layout::Layout;
-use lu_page::PAGE;
+use lu_page::{PAGE, Places};
 use lu_patch::Patch;
-use lu_places::Places;
-use lu_words::Using;
+use lu_spec_entries::Using;
 use std::cmp::min;
 
 /// Whether a lock reaches the end of its object.

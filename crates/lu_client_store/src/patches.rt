@@ -2,11 +2,11 @@
 
 ghost use Rattle.std.specs.Prelude.{◌≡◌, ◌≤◌, ◌+◌, ◌^◌, [], false, nat_lt, unwrap_or, is_some, IfOk, IfSome, OnOk, OnErr};
 ghost use Rattle.std.specs.Option.{option_copied};
-ghost use Rattle.lu_words.specs.Words.{Changes, Acks};
-ghost use Rattle.lu_client_rows.specs.Patches.{clean, size_over, in_flight, cut_within, has_change, next_flush, dirty_in};
-ghost use Rattle.lu_client_rows.specs.Caches.{patch_at, patches_after};
-ghost use Rattle.lu_client_rows.specs.Locks.{dirty_total};
-ghost use Rattle.lu_client_rows.specs.WriteBack.{is_clean};
+ghost use Rattle.lu_spec_entries.specs.Words.{Changes, Acks};
+ghost use Rattle.lu_spec_client.specs.Patches.{clean, size_over, in_flight, cut_within, has_change, next_flush, dirty_in};
+ghost use Rattle.lu_spec_client.specs.Caches.{patch_at, patches_after};
+ghost use Rattle.lu_spec_client.specs.Locks.{dirty_total};
+ghost use Rattle.lu_spec_client.specs.WriteBack.{is_clean};
 ghost use Rattle.lu_client_store.specs.Stored.{IsInFile, patches_sent};
 ghost use Rattle.lu_client_store.specs.Counting.{AreFew};
 
@@ -14,7 +14,7 @@ use super::objects::ObjectPatch;
 use indexmap::IndexMap;
 use lu_base::{Extent, Memory, Resource};
 use lu_patch::Patch;
-use lu_words::Flush;
+use lu_spec_entries::Flush;
 use std::alloc::Global;
 use std::marker::Model;
 
@@ -30,7 +30,7 @@ pub(crate) struct Patches {
 impl Model for Patches {
     ghost use Rattle.std.specs.Prelude.{List};
     ghost use Rattle.lu_base.specs.declared.locks.Resource.{Resource as ResourceOf};
-    ghost use Rattle.lu_client_rows.specs.Patches.{Patch as Shown};
+    ghost use Rattle.lu_spec_client.specs.Patches.{Patch as Shown};
     ghost use Rattle.lu_client_store.specs.Counting.{IsTotal};
 
     ghost Value = { List (ResourceOf × Shown) };

@@ -4,13 +4,13 @@ ghost use Rattle.std.specs.Prelude.{◌≡◌, ◌&&◌, not, IfOk};
 ghost use Rattle.lu_held.specs.declared.locks.Wanted.TheVariants.{Holding};
 ghost use Rattle.lu_held.specs.Locks.{reaches_end};
 ghost use Rattle.lu_held.specs.Held.{those};
-ghost use Rattle.lu_client_rows.specs.Looks.{shown_under, shown_elsewhere, reached_under, has_reached};
+ghost use Rattle.lu_spec_client.specs.Looks.{shown_under, shown_elsewhere, reached_under, has_reached};
 
 use super::pages::reaches_end;
 use super::store::Store;
 use lu_base::{Lock, Memory, Resource, TargetId};
 use lu_layout::Layout;
-use lu_words::Using;
+use lu_spec_entries::Using;
 use std::alloc::Global;
 
 impl Store {

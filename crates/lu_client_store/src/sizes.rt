@@ -2,13 +2,13 @@
 
 ghost use Rattle.std.specs.Prelude.{◌≡◌, ◌≤◌, ◌^◌, All, length, map};
 ghost use Rattle.std.specs.List.{range_with_len};
-ghost use Rattle.lu_client_rows.specs.Stripes.{stripes};
-ghost use Rattle.lu_client_rows.specs.Looks.{size_under, size_on, file_size};
+ghost use Rattle.lu_spec_client.specs.Stripes.{stripes};
+ghost use Rattle.lu_spec_client.specs.Looks.{size_under, size_on, file_size};
 
 use super::store::Store;
 use lu_base::Lock;
 use lu_layout::Layout;
-use lu_words::Using;
+use lu_spec_entries::Using;
 
 /// The most stripes of a file.
 const MOST_STRIPES: usize = 8;

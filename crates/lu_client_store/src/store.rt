@@ -4,11 +4,11 @@ ghost use Rattle.std.specs.Prelude.{◌≡◌, ◌+◌, ◌≤◌, ◌^◌, ℕ,
 ghost use Rattle.lu_base.specs.declared.ids.Who.{Who};
 ghost use Rattle.lu_held.specs.Locks.{named, name_of};
 ghost use Rattle.lu_held.specs.Held.{is_held, to_trim};
-ghost use Rattle.lu_words.specs.Words.{Hold, Drop as DropOf, Life, Pins, Unpins, Marks, Unmarks, Learns, Changes, Acks, Fills, Zeroes, Grown, Shows};
+ghost use Rattle.lu_spec_entries.specs.Words.{Hold, Drop as DropOf, Life, Pins, Unpins, Marks, Unmarks, Learns, Changes, Acks, Fills, Zeroes, Grown, Shows};
 ghost use Rattle.lu_cache.specs.Cached.{cache_after};
-ghost use Rattle.lu_client_rows.specs.Patches.{in_flight, next_flush};
-ghost use Rattle.lu_client_rows.specs.Facts.{without_facts};
-ghost use Rattle.lu_client_rows.specs.Caches.{held_as, forgotten_bytes, forgotten_notes, patch_at};
+ghost use Rattle.lu_spec_client.specs.Patches.{in_flight, next_flush};
+ghost use Rattle.lu_spec_client.specs.Facts.{without_facts};
+ghost use Rattle.lu_spec_client.specs.Caches.{held_as, forgotten_bytes, forgotten_notes, patch_at};
 ghost use Rattle.lu_client_store.specs.Stored.{first_state, stored_after, stored_sent, stored_marked, locks_held, trims_left, IsInFile};
 
 use super::patches::Patches;
@@ -16,7 +16,7 @@ use lu_base::{Ask, Extent, Lock, Memory, Policy, Resource, TargetId};
 use lu_cache::Cache;
 use lu_held::{Held, LockName};
 use lu_msg::{Answer, Op};
-use lu_words::Flush;
+use lu_spec_entries::Flush;
 use std::alloc::Global;
 use std::marker::Model;
 

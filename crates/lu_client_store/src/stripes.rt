@@ -1,16 +1,16 @@
 //! Writes and cuts of a file, stripe by stripe.
 
 ghost use Rattle.std.specs.Prelude.{◌≡◌, ◌≤◌, ◌<◌, ◌+◌, ◌^◌, All, length, OnOk, IfOk};
-ghost use Rattle.lu_words.specs.declared.changes.Flush.TheVariants.{Cut};
-ghost use Rattle.lu_words.specs.Words.{Changes};
-ghost use Rattle.lu_client_rows.specs.Stripes.{below_on, bytes_on};
-ghost use Rattle.lu_client_rows.specs.Advances.{writes_on, writes, cuts};
+ghost use Rattle.lu_spec_entries.specs.declared.changes.Flush.TheVariants.{Cut};
+ghost use Rattle.lu_spec_entries.specs.Words.{Changes};
+ghost use Rattle.lu_spec_client.specs.Stripes.{below_on, bytes_on};
+ghost use Rattle.lu_spec_client.specs.Advances.{writes_on, writes, cuts};
 ghost use Rattle.lu_client_store.specs.Stored.{stored_after, stored_turn};
 
 use super::store::Store;
 use lu_base::{Bytes, Lock, Memory};
 use lu_layout::Layout;
-use lu_words::{Flush, Using};
+use lu_spec_entries::{Flush, Using};
 use std::alloc::Global;
 
 /// Of bytes at a position of the file, those that lie on a stripe, in order.

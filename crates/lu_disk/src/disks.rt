@@ -7,8 +7,6 @@ ghost use Rattle.lu_disk.specs.Disks.{HasCause};
 use lu_base::Memory;
 use lu_msg::{Batch, Batches};
 use std::alloc::AllocFailed;
-use std::error::Error;
-use std::fmt;
 
 /// Why a disk's call wasn't done. The disk holds what it held.
 #[derive(Clone, Copy, Debug, PartialEq, Eq)]
@@ -18,17 +16,6 @@ pub enum DiskError {
     /// Want of memory.
     Memory,
 }
-
-impl fmt::Display for DiskError {
-    fn fmt<W: fmt::Write>(&self, f: &mut fmt::Formatter<W>) -> fmt::Result {
-        match self {
-            DiskError::Failed => write!(f, "the disk failed"),
-            DiskError::Memory => write!(f, "out of memory"),
-        }
-    }
-}
-
-impl Error for DiskError {}
 
 impl From<Memory> for DiskError {
     ghost use Rattle.std.specs.Prelude.{◌≡◌};

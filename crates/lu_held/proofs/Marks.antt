@@ -34,27 +34,33 @@ only_marked (Serving wanted) held of e = absurd (cc)
 only_marked (ServingToTheEnd wanted) held of e = absurd (cc)
 only_marked (Holding target resource offset) held of e = absurd (cc)
 
-pub looked_marked : (wanted : Wanted) (names : List LockName) (entries : List (LockName × HeldLock)) (marked : List LockName) (most count : ℕ) → of_marked wanted ≡ true → IsKept names entries → IsIndexed (values_of entries) marked most count
+pub looked_marked : (wanted : Wanted) (names : List LockName) (entries : List (LockName × HeldLock)) (marked : List LockName)
+    (most count : ℕ) → of_marked wanted ≡ true → IsKept names entries → IsIndexed (values_of entries) marked most count
     → filter (is_asked wanted entries) marked ≡ map name_of (those wanted (values_of entries))
 looked_marked wanted names entries marked most count of kept indexed =
     let locks = values_of entries in
     let some = filter is_marked (in_order locks) in
-    filter_alike (is_asked wanted entries) (asks wanted locks) (λ name. ap (λ found. option_map_or (matches wanted) found false) (lookup_find name entries kept.keyed)) marked
+    filter_alike (is_asked wanted entries) (asks wanted locks) (λ name. ap (λ found. option_map_or (matches wanted) found false)
+    (lookup_find name entries kept.keyed)) marked
     ∙ ap (filter (asks wanted locks)) (indexed.marked ∙ marks_are locks kept.sound)
     ∙ filter_names wanted locks some (All-filter is_marked (IsFound locks) (in_order locks) (found_in_order names entries kept))
     ∙ ap (map name_of) (filter_within (matches wanted) is_marked (λ held. only_marked wanted held of) (in_order locks))
 
-pub looked_at_marked : (wanted : Wanted) (names : List LockName) (entries : List (LockName × HeldLock)) (marked : List LockName) (most count at : ℕ) → of_marked wanted ≡ true → IsKept names entries → IsIndexed (values_of entries) marked most count
+pub looked_at_marked : (wanted : Wanted) (names : List LockName) (entries : List (LockName × HeldLock)) (marked : List LockName)
+    (most count at : ℕ) → of_marked wanted ≡ true → IsKept names entries → IsIndexed (values_of entries) marked most count
     → slice_get (filter (is_asked wanted entries) marked) at ≡ option_map name_of (slice_get (those wanted (values_of entries)) at)
 looked_at_marked wanted names entries marked most count at of kept indexed =
-    ap (λ some. slice_get some at) (looked_marked wanted names entries marked most count of kept indexed) ∙ slice_get-map name_of (those wanted (values_of entries)) at
+    ap (λ some. slice_get some at) (looked_marked wanted names entries marked most count of kept indexed)
+    ∙ slice_get-map name_of (those wanted (values_of entries)) at
 
-pub listed_marked : (wanted : Wanted) (names : List LockName) (entries : List (LockName × HeldLock)) (marked : List LockName) (most count : ℕ) → of_marked wanted ≡ true → IsKept names entries → IsIndexed (values_of entries) marked most count
+pub listed_marked : (wanted : Wanted) (names : List LockName) (entries : List (LockName × HeldLock)) (marked : List LockName)
+    (most count : ℕ) → of_marked wanted ≡ true → IsKept names entries → IsIndexed (values_of entries) marked most count
     → filter_map (asked wanted entries) marked ≡ those wanted (values_of entries)
 listed_marked wanted names entries marked most count of kept indexed =
     let locks = values_of entries in
     let some = filter is_marked (in_order locks) in
-    map_alike (asked wanted entries) (chosen wanted locks) (λ name. ap (where_it_is (matches wanted)) (lookup_find name entries kept.keyed)) marked
+    map_alike (asked wanted entries) (chosen wanted locks) (λ name. ap (where_it_is (matches wanted)) (lookup_find name entries kept.keyed))
+    marked
     ∙ ap (filter_map (chosen wanted locks)) (indexed.marked ∙ marks_are locks kept.sound)
     ∙ chosen_names wanted locks some (All-filter is_marked (IsFound locks) (in_order locks) (found_in_order names entries kept))
     ∙ filter_within (matches wanted) is_marked (λ held. only_marked wanted held of) (in_order locks)

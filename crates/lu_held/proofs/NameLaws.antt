@@ -34,13 +34,15 @@ same_is one other same =
 behind : (a b x : LockName) → is_before x a ≡ true → is_before x b ≡ false → is_before b a ≡ true
 behind a b x = grind (arith, nat_tests)
 
-both_behind : (a b x : LockName) (names : List LockName) → is_before x a ≡ false → is_before x b ≡ false → Apart a b → (v w : Bool) → is_before a b ≡ v → is_before b a ≡ w → with_name a (with_name b (x ∷ names)) ≡ with_name b (with_name a (x ∷ names))
+both_behind : (a b x : LockName) (names : List LockName) → is_before x a ≡ false → is_before x b ≡ false → Apart a b → (v w : Bool)
+    → is_before a b ≡ v → is_before b a ≡ w → with_name a (with_name b (x ∷ names)) ≡ with_name b (with_name a (x ∷ names))
 both_behind a b x names e f apart true false g h = rw (f, h, e, g, f) refl
 both_behind a b x names e f apart false true g h = rw (f, h, e, g) refl
 both_behind a b x names e f apart true true g h = absurd (grind (arith, nat_tests))
 both_behind a b x names e f apart false false g h = absurd (grind (arith, nat_tests))
 
-commute_two : (a b : LockName) → Apart a b → (v w : Bool) → is_before a b ≡ v → is_before b a ≡ w → with_name a (b ∷ []) ≡ with_name b (a ∷ [])
+commute_two : (a b : LockName) → Apart a b → (v w : Bool) → is_before a b ≡ v → is_before b a ≡ w → with_name a (b ∷ [])
+    ≡ with_name b (a ∷ [])
 commute_two a b apart true false g h = rw (h, g) refl
 commute_two a b apart false true g h = rw (h, g) refl
 commute_two a b apart true true g h = absurd (grind (arith, nat_tests))
@@ -49,7 +51,8 @@ commute_two a b apart false false g h = absurd (grind (arith, nat_tests))
 pub commute : (a b : LockName) → Apart a b → (names : List LockName) → with_name a (with_name b names) ≡ with_name b (with_name a names)
 commute a b apart [] = commute_two a b apart (is_before a b) (is_before b a) refl refl
 commute a b apart (x ∷ names) = by (is_before x a) (is_before x b) refl refl (commute a b apart names) where
-  by : (v w : Bool) → is_before x a ≡ v → is_before x b ≡ w → with_name a (with_name b names) ≡ with_name b (with_name a names) → with_name a (with_name b (x ∷ names)) ≡ with_name b (with_name a (x ∷ names))
+  by : (v w : Bool) → is_before x a ≡ v → is_before x b ≡ w → with_name a (with_name b names) ≡ with_name b (with_name a names)
+      → with_name a (with_name b (x ∷ names)) ≡ with_name b (with_name a (x ∷ names))
   by true true e f rest = rw (f, e, f) (ap (λ more. x ∷ more) rest)
   by true false e f rest = let g : is_before b a ≡ true = behind a b x e f in rw (f, g, e, f) refl
   by false true e f rest = let g : is_before a b ≡ true = behind b a x f e in rw (f, e, g, f) refl
@@ -70,7 +73,8 @@ all_sorted P (name ∷ names) all = all_with P name (sorted names) (all 0 name (
 pub filter_with : (name : LockName) (names : List LockName) → filter (others name) (with_name name names) ≡ filter (others name) names
 filter_with name [] = rw (same_self name) refl
 filter_with name (first ∷ names) = by (is_before first name) refl (filter_with name names) where
-  by : (before : Bool) → is_before first name ≡ before → filter (others name) (with_name name names) ≡ filter (others name) names → filter (others name) (with_name name (first ∷ names)) ≡ filter (others name) (first ∷ names)
+  by : (before : Bool) → is_before first name ≡ before → filter (others name) (with_name name names) ≡ filter (others name) names
+      → filter (others name) (with_name name (first ∷ names)) ≡ filter (others name) (first ∷ names)
   by true e rest = rw (e, rest) refl
   by false e rest = rw (e, same_self name) refl
 
@@ -78,24 +82,30 @@ pub all_others : (name : LockName) (names : List LockName) → All (Apart name) 
 all_others name names apart = filter_all (others name) names (turned (same_name name) names apart)
 
 -- a name among others that are apart, put in last
-pub sorted_used : (name : LockName) (names : List LockName) → AllPairs Apart names → list_any (same_name name) names ≡ true → with_name name (sorted (filter (others name) names)) ≡ sorted names
+pub sorted_used : (name : LockName) (names : List LockName) → AllPairs Apart names → list_any (same_name name) names ≡ true
+    → with_name name (sorted (filter (others name) names)) ≡ sorted names
 sorted_used name [] apart there = absurd (cc)
-sorted_used name (first ∷ names) apart there = by (same_name name first) refl there (sorted_used name names (rest_pairs Apart first names apart)) where
-  by : (here : Bool) → same_name name first ≡ here → (here || list_any (same_name name) names) ≡ true → (list_any (same_name name) names ≡ true → with_name name (sorted (filter (others name) names)) ≡ sorted names) → with_name name (sorted (cond (not here) (first ∷ filter (others name) names) (filter (others name) names))) ≡ sorted (first ∷ names)
-  by true e h rest =
-      let same : name ≡ first = same_is name first e in
-      let apart_here : All (Apart name) names = subst (λ n. All (Apart n) names) (sym same) (first_pairs Apart first names apart) in
-      rw (all_others name names apart_here) (ap (λ n. with_name n (sorted names)) same)
-  by false e h rest = commute name first e (sorted (filter (others name) names)) ∙ ap (with_name first) (rest h)
+sorted_used name (first ∷ names) apart there = by (same_name name first) refl there
+    (sorted_used name names (rest_pairs Apart first names apart)) where
+      by : (here : Bool) → same_name name first ≡ here → (here || list_any (same_name name) names) ≡ true
+          → (list_any (same_name name) names ≡ true → with_name name (sorted (filter (others name) names)) ≡ sorted names)
+          → with_name name (sorted (cond (not here) (first ∷ filter (others name) names) (filter (others name) names))) ≡ sorted (first ∷ names)
+      by true e h rest =
+          let same : name ≡ first = same_is name first e in
+          let apart_here : All (Apart name) names = subst (λ n. All (Apart n) names) (sym same) (first_pairs Apart first names apart) in
+          rw (all_others name names apart_here) (ap (λ n. with_name n (sorted names)) same)
+      by false e h rest = commute name first e (sorted (filter (others name) names)) ∙ ap (with_name first) (rest h)
 
-pub sorted_without : (name : LockName) (names : List LockName) → AllPairs Apart names → filter (others name) (sorted names) ≡ sorted (filter (others name) names)
+pub sorted_without : (name : LockName) (names : List LockName) → AllPairs Apart names → filter (others name) (sorted names)
+    ≡ sorted (filter (others name) names)
 sorted_without name names apart = by (list_any (same_name name) names) refl where
   by : (there : Bool) → list_any (same_name name) names ≡ there → filter (others name) (sorted names) ≡ sorted (filter (others name) names)
   by true e =
       let rest : All (λ other. others name other ≡ true) (filter (others name) names) = filter_passes (others name) names in
       ap (filter (others name)) (sym (sorted_used name names apart e))
       ∙ filter_with name (sorted (filter (others name) names))
-      ∙ filter_all (others name) (sorted (filter (others name) names)) (all_sorted (λ other. others name other ≡ true) (filter (others name) names) rest)
+      ∙ filter_all (others name) (sorted (filter (others name) names))
+      (all_sorted (λ other. others name other ≡ true) (filter (others name) names) rest)
   by false e =
       let none : All (Apart name) names = none_pass (same_name name) names e in
       all_others name (sorted names) (all_sorted (Apart name) names none) ∙ ap sorted (sym (all_others name names none))
@@ -107,7 +117,8 @@ by_name one other = ordering_then (nat_cmp one.target.0 other.target.0) (nat_cmp
 is_equal : (one other : LockName) → is_eq (by_name one other) ≡ same_name one other
 is_equal one other = grind (arith, nat_tests)
 
-step : (name first : LockName) (here there more : List LockName) → Apart name first → match_ordering (by_name name first) here there more ≡ cond (is_before first name) more here
+step : (name first : LockName) (here there more : List LockName) → Apart name first → match_ordering (by_name name first) here there more
+    ≡ cond (is_before first name) more here
 step name first here there more apart = grind (arith, nat_tests)
 
 pub key_put : (name : LockName) (names : List LockName) → All (Apart name) names → insert_key by_name names name ≡ with_name name names
@@ -117,24 +128,32 @@ key_put name (first ∷ names) apart =
     step name first (name ∷ first ∷ names) (first ∷ names) (first ∷ insert_key by_name names name) (apart 0 first (omega arith))
     ∙ ap (λ more. cond (is_before first name) (first ∷ more) (name ∷ first ∷ names)) rest
 
-pub key_removed : (name : LockName) (names : List LockName) → AllPairs Apart names → remove_key (λ other. is_eq (by_name name other)) names ≡ filter (others name) names
+pub key_removed : (name : LockName) (names : List LockName) → AllPairs Apart names → remove_key (λ other. is_eq (by_name name other)) names
+    ≡ filter (others name) names
 key_removed name [] apart = refl
 key_removed name (first ∷ names) apart = by (same_name name first) refl (key_removed name names (rest_pairs Apart first names apart)) where
-  by : (same : Bool) → same_name name first ≡ same → remove_key (λ other. is_eq (by_name name other)) names ≡ filter (others name) names → cond (is_eq (by_name name first)) names (first ∷ remove_key (λ other. is_eq (by_name name other)) names) ≡ cond (not same) (first ∷ filter (others name) names) (filter (others name) names)
+  by : (same : Bool) → same_name name first ≡ same → remove_key (λ other. is_eq (by_name name other)) names ≡ filter (others name) names
+      → cond (is_eq (by_name name first)) names (first ∷ remove_key (λ other. is_eq (by_name name other)) names)
+      ≡ cond (not same) (first ∷ filter (others name) names) (filter (others name) names)
   by true e rest =
       let same : name ≡ first = same_is name first e in
       let apart_here : All (Apart name) names = subst (λ n. All (Apart n) names) (sym same) (first_pairs Apart first names apart) in
       rw (is_equal name first, e) (sym (all_others name names apart_here))
   by false e rest = rw (is_equal name first, e) (ap (λ more. first ∷ more) rest)
 
-apart_with : (name : LockName) (names : List LockName) → AllPairs Apart names → All (Apart name) names → AllPairs Apart (with_name name names)
+apart_with : (name : LockName) (names : List LockName) → AllPairs Apart names → All (Apart name) names
+    → AllPairs Apart (with_name name names)
 apart_with name [] pairs apart = λ i j d less within. absurd (omega arith)
-apart_with name (first ∷ names) pairs apart = by (is_before first name) (apart_with name names (rest_pairs Apart first names pairs) (rest_all (Apart name) first names apart)) where
-  by : (before : Bool) → AllPairs Apart (with_name name names) → AllPairs Apart (cond before (first ∷ with_name name names) (name ∷ first ∷ names))
-  by true rest = AllPairs-cons Apart first (with_name name names) (all_with (Apart first) name names (same_turned name first (apart 0 first (omega arith))) (first_pairs Apart first names pairs)) rest
-  by false rest = AllPairs-cons Apart name (first ∷ names) apart pairs
+apart_with name (first ∷ names) pairs apart = by (is_before first name)
+    (apart_with name names (rest_pairs Apart first names pairs) (rest_all (Apart name) first names apart)) where
+      by : (before : Bool) → AllPairs Apart (with_name name names) → AllPairs Apart
+          (cond before (first ∷ with_name name names) (name ∷ first ∷ names))
+      by true rest = AllPairs-cons Apart first (with_name name names)
+          (all_with (Apart first) name names (same_turned name first (apart 0 first (omega arith))) (first_pairs Apart first names pairs)) rest
+      by false rest = AllPairs-cons Apart name (first ∷ names) apart pairs
 
 pub apart_sorted : (names : List LockName) → AllPairs Apart names → AllPairs Apart (sorted names)
 apart_sorted [] apart = apart
 apart_sorted (name ∷ names) apart =
-    apart_with name (sorted names) (apart_sorted names (rest_pairs Apart name names apart)) (all_sorted (Apart name) names (first_pairs Apart name names apart))
+    apart_with name (sorted names) (apart_sorted names (rest_pairs Apart name names apart))
+    (all_sorted (Apart name) names (first_pairs Apart name names apart))

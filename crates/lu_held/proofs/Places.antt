@@ -8,7 +8,9 @@ use Rattle.lu_held.specs.declared.names.LockName.{LockName}
 use Rattle.lu_held.specs.Names.{is_before, with_name, IsEarlier}
 use Rattle.lu_held.proofs.Choices.{transitive}
 
-pub placed : (name : LockName) (names : List LockName) (at : ℕ) → at ≤ length names → IsPartitionPoint (λ other. is_before other name ≡ true) (λ other. is_before other name ≡ false) names at → insert names at name ≡ with_name name names
+pub placed : (name : LockName) (names : List LockName) (at : ℕ) → at ≤ length names
+    → IsPartitionPoint (λ other. is_before other name ≡ true) (λ other. is_before other name ≡ false) names at → insert names at name
+    ≡ with_name name names
 placed name [] zero within point = refl
 placed name [] (suc at) within point = absurd (omega arith)
 placed name (first ∷ names) zero within point =
@@ -16,7 +18,8 @@ placed name (first ∷ names) zero within point =
     rw back refl
 placed name (first ∷ names) (suc at) within point =
     let ahead : is_before first name ≡ true = point.0 0 first (omega arith) (omega arith) in
-    rw ahead (ap (λ more. first ∷ more) (placed name names at (omega arith) (λ k d low high. point.0 (suc k) d (omega arith) (omega arith), λ k d low high. point.1 (suc k) d (omega arith) (omega arith))))
+    rw ahead (ap (λ more. first ∷ more) (placed name names at (omega arith)
+    (λ k d low high. point.0 (suc k) d (omega arith) (omega arith), λ k d low high. point.1 (suc k) d (omega arith) (omega arith))))
 
 pub parted : (name : LockName) (names : List LockName) → AllPairs IsEarlier names → IsPartitionedBy (λ other. is_before other name) names
 parted name names rising i j d low high ahead = by (nat_lt i j) refl where

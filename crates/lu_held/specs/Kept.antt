@@ -1,6 +1,7 @@
 -- How the code keeps the held locks: each under its name, no two under one, the names in order beside them, and those
 -- of the marked ones, in order too.
-use Rattle.std.specs.Prelude.{◌≡◌, ◌≤◌, ℕ, ◌+◌, ◌-◌, ◌^◌, ◌==◌, nat_lt, if◌then◌else◌, Bool, true, false, not, List, length, map, filter, All, AllPairs, Option, Some, None}
+use Rattle.std.specs.Prelude.{◌≡◌, ◌≤◌, ℕ, ◌+◌, ◌-◌, ◌^◌, ◌==◌, nat_lt, if◌then◌else◌, Bool, true, false, not, List, length, map, filter}
+use Rattle.std.specs.Prelude.{All, AllPairs, Option, Some, None}
 use Rattle.std.specs.Option.{option_map_or}
 use Rattle.std.specs.Map.{keys_of, values_of, lookup}
 use Rattle.lru.specs.LruCache.{LruCache}

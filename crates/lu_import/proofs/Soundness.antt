@@ -1,5 +1,6 @@
 -- What holds of every import still holds once a reply was heard, and once a request was sent.
-use Rattle.std.proofs.Common.{◌≡◌, ◌≢◌, ℕ, ◌+◌, ◌<◌, ◌≤◌, ◌==◌, ◌||◌, Bool, true, false, not, cond, Some, is_some, List, [], ◌∷◌, ◌++◌, length, get_or, refl, arith}
+use Rattle.std.proofs.Common.{◌≡◌, ◌≢◌, ℕ, ◌+◌, ◌<◌, ◌≤◌, ◌==◌, ◌||◌, Bool, true, false, not, cond, Some, is_some, List, [], ◌∷◌, ◌++◌}
+use Rattle.std.proofs.Common.{length, get_or, refl, arith}
 use Rattle.std.specs.List.{list_any}
 use Rattle.std.proofs.lemmas.Grind.{common_steps}
 use Rattle.std.proofs.lemmas.Bool.Decides.{nat_tests}
@@ -19,7 +20,8 @@ use Rattle.lu_import.specs.Imports.{ImportState, IsSound}
 pub none_left : (number : ℕ) (requests : List InFlight) → has_number number (without number requests) ≡ false
 none_left number [] = refl
 none_left number (request ∷ requests) = by (request.xid.0 == number) refl (none_left number requests) where
-  by : (here : Bool) → (request.xid.0 == number) ≡ here → has_number number (without number requests) ≡ false → has_number number (cond (not here) (request ∷ without number requests) (without number requests)) ≡ false
+  by : (here : Bool) → (request.xid.0 == number) ≡ here → has_number number (without number requests) ≡ false
+      → has_number number (cond (not here) (request ∷ without number requests) (without number requests)) ≡ false
   by true e rest = rest
   by false e rest = rw e rest
 
@@ -43,7 +45,8 @@ UpTo last request = request.xid.0 ≤ last
 abbrev TagBelow : ℕ → InFlight → Type 0
 TagBelow flight request = request.tag < flight
 
-pub sound_heard : (import : ImportState) (number : ℕ) (kept : KeptState) → IsSound import → IsSettled kept → IsSound (record import { in_flight = without number import.in_flight; kept = kept })
+pub sound_heard : (import : ImportState) (number : ℕ) (kept : KeptState) → IsSound import → IsSettled kept
+    → IsSound (record import { in_flight = without number import.in_flight; kept = kept })
 sound_heard import number kept sound settled =
     let other : InFlight → Bool = λ request. not (request.xid.0 == number) in
     let fewer : length (without number import.in_flight) ≤ length import.in_flight = no_more number import.in_flight in
@@ -60,24 +63,33 @@ sound_heard import number kept sound settled =
     }
 
 -- what a test of the whole list refuses it refuses at each place
-pub none_at : (test : InFlight → Bool) (requests : List InFlight) → list_any test requests ≡ false → (place : ℕ) (d : InFlight) → place < length requests → test (get_or requests place d) ≡ false
+pub none_at : (test : InFlight → Bool) (requests : List InFlight) → list_any test requests ≡ false → (place : ℕ) (d : InFlight)
+    → place < length requests → test (get_or requests place d) ≡ false
 none_at test requests none place d within = by (test (get_or requests place d)) refl where
   by : (there : Bool) → test (get_or requests place d) ≡ there → there ≡ false
   by false e = refl
   by true e = let some : list_any test requests ≡ true = list_any_at test requests place d within e in absurd (cc)
 
-pub sound_sent : (import : ImportState) (request : InFlight) (rest : List Waiting) → IsSound import → length import.in_flight < import.flight → request.xid.0 ≡ import.last + 1 → has_tag request.tag import.in_flight ≡ false → request.tag ≤ length import.in_flight → front_waits import.target import.in_flight request.op ≡ false → IsSound (record import { last = import.last + 1; queue = rest; in_flight = import.in_flight ++ request ∷ [] })
+pub sound_sent : (import : ImportState) (request : InFlight) (rest : List Waiting) → IsSound import
+    → length import.in_flight < import.flight → request.xid.0 ≡ import.last + 1 → has_tag request.tag import.in_flight ≡ false
+    → request.tag ≤ length import.in_flight → front_waits import.target import.in_flight request.op ≡ false
+    → IsSound (record import { last = import.last + 1; queue = rest; in_flight = import.in_flight ++ request ∷ [] })
 sound_sent import request rest sound room number free within unblocked =
     let requests = import.in_flight in
     let count : length (requests ++ request ∷ []) ≡ length requests + 1 = length_push requests request in
     record {
       flight = sound.flight;
       most = omega arith;
-      rising = all_pairs_push Rising requests request sound.rising (λ place d below. let old : (get_or requests place d).xid.0 ≤ import.last = sound.given place d below in omega arith);
-      given = All-push (UpTo (import.last + 1)) requests request (λ place d below. let old : (get_or requests place d).xid.0 ≤ import.last = sound.given place d below in omega arith) (omega arith);
-      tags = all_pairs_push OtherTags requests request sound.tags (λ place d below. apart (get_or requests place d).tag (none_at (λ r. r.tag == request.tag) requests free place d below));
+      rising = all_pairs_push Rising requests request sound.rising
+          (λ place d below. let old : (get_or requests place d).xid.0 ≤ import.last = sound.given place d below in omega arith);
+      given = All-push (UpTo (import.last + 1)) requests request
+          (λ place d below. let old : (get_or requests place d).xid.0 ≤ import.last = sound.given place d below in omega arith)
+          (omega arith);
+      tags = all_pairs_push OtherTags requests request sound.tags
+          (λ place d below. apart (get_or requests place d).tag (none_at (λ r. r.tag == request.tag) requests free place d below));
       range = All-push (TagBelow import.flight) requests request sound.range (omega arith);
-      objects = λ ost. all_pairs_push OtherObjects requests request (sound.objects ost) (λ place d below. none_at (λ r. same_object r.op request.op) requests (idle ost) place d below);
+      objects = λ ost. all_pairs_push OtherObjects requests request (sound.objects ost)
+          (λ place d below. none_at (λ r. same_object r.op request.op) requests (idle ost) place d below);
       kept = sound.kept;
     }
   where
@@ -91,6 +103,7 @@ sound_sent import request rest sound room number free within unblocked =
 pub number_found : (number : ℕ) (requests : List InFlight) → has_number number requests ≡ is_some (request_of number requests)
 number_found number [] = refl
 number_found number (request ∷ requests) = by (request.xid.0 == number) (number_found number requests) where
-  by : (here : Bool) → has_number number requests ≡ is_some (request_of number requests) → (here || has_number number requests) ≡ is_some (cond here (Some request) (request_of number requests))
+  by : (here : Bool) → has_number number requests ≡ is_some (request_of number requests) → (here || has_number number requests)
+      ≡ is_some (cond here (Some request) (request_of number requests))
   by true rest = refl
   by false rest = rest

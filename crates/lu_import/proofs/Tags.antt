@@ -1,5 +1,6 @@
 -- Requests that have all tags below a number are at least that many.
-use Rattle.std.proofs.Common.{◌≡◌, ◌≢◌, ℕ, zero, suc, ◌+◌, ◌<◌, ◌≤◌, ◌==◌, ◌||◌, Bool, true, false, not, cond, List, [], ◌∷◌, length, filter, ◌⊎◌, inl, inr, refl, sym, subst, arith}
+use Rattle.std.proofs.Common.{◌≡◌, ◌≢◌, ℕ, zero, suc, ◌+◌, ◌<◌, ◌≤◌, ◌==◌, ◌||◌, Bool, true, false, not, cond, List, [], ◌∷◌, length}
+use Rattle.std.proofs.Common.{filter, ◌⊎◌, inl, inr, refl, sym, subst, arith}
 use Rattle.std.proofs.lemmas.Grind.{common_steps}
 use Rattle.std.proofs.lemmas.Bool.Decides.{nat_tests}
 use Rattle.std.proofs.lemmas.Bool.{cases_lt}
@@ -20,20 +21,26 @@ fewer : (tag : ℕ) (requests : List InFlight) → has_tag tag requests ≡ true
 unfolding other_tags
 fewer tag [] h = absurd (cc)
 fewer tag (request ∷ requests) h = by (request.tag == tag) h (fewer tag requests) (no_more tag requests) where
-  by : (here : Bool) → (here || has_tag tag requests) ≡ true → (has_tag tag requests ≡ true → length (other_tags tag requests) + 1 ≤ length requests) → length (other_tags tag requests) ≤ length requests → length (cond (not here) (request ∷ other_tags tag requests) (other_tags tag requests)) + 1 ≤ suc (length requests)
+  by : (here : Bool) → (here || has_tag tag requests) ≡ true → (has_tag tag requests ≡ true
+      → length (other_tags tag requests) + 1 ≤ length requests) → length (other_tags tag requests) ≤ length requests
+      → length (cond (not here) (request ∷ other_tags tag requests) (other_tags tag requests)) + 1 ≤ suc (length requests)
   by true h rest all = omega arith
   by false h rest all = let some = rest h in omega arith
 
 -- a request of another tag stays
-still : (tag other : ℕ) (requests : List InFlight) → other ≢ tag → has_tag other requests ≡ true → has_tag other (other_tags tag requests) ≡ true
+still : (tag other : ℕ) (requests : List InFlight) → other ≢ tag → has_tag other requests ≡ true → has_tag other (other_tags tag requests)
+    ≡ true
 unfolding other_tags
 still tag other [] apart h = h
-still tag other (request ∷ requests) apart h = by (request.tag == tag) (request.tag == other) refl refl h (still tag other requests apart) where
-  by : (here there : Bool) → (request.tag == tag) ≡ here → (request.tag == other) ≡ there → (there || has_tag other requests) ≡ true → (has_tag other requests ≡ true → has_tag other (other_tags tag requests) ≡ true) → has_tag other (cond (not here) (request ∷ other_tags tag requests) (other_tags tag requests)) ≡ true
-  by true true e f h rest = absurd (grind (arith, nat_tests))
-  by true false e f h rest = rest h
-  by false true e f h rest = rw f refl
-  by false false e f h rest = rw f (rest h)
+still tag other (request ∷ requests) apart h = by (request.tag == tag) (request.tag == other) refl refl h
+    (still tag other requests apart) where
+      by : (here there : Bool) → (request.tag == tag) ≡ here → (request.tag == other) ≡ there → (there || has_tag other requests) ≡ true
+          → (has_tag other requests ≡ true → has_tag other (other_tags tag requests) ≡ true)
+          → has_tag other (cond (not here) (request ∷ other_tags tag requests) (other_tags tag requests)) ≡ true
+      by true true e f h rest = absurd (grind (arith, nat_tests))
+      by true false e f h rest = rest h
+      by false true e f h rest = rw f refl
+      by false false e f h rest = rw f (rest h)
 
 -- the tags below a number are all taken: the requests are at least that many
 pub taken_below : (count : ℕ) (requests : List InFlight) → ((tag : ℕ) → tag < count → has_tag tag requests ≡ true) → count ≤ length requests
@@ -44,7 +51,8 @@ taken_below (suc count) requests h =
     omega arith
 
 -- and one more where the number itself is taken
-pub taken_with : (tag : ℕ) (requests : List InFlight) → ((lower : ℕ) → lower < tag → has_tag lower requests ≡ true) → has_tag tag requests ≡ true → tag + 1 ≤ length requests
+pub taken_with : (tag : ℕ) (requests : List InFlight) → ((lower : ℕ) → lower < tag → has_tag lower requests ≡ true) → has_tag tag requests
+    ≡ true → tag + 1 ≤ length requests
 taken_with tag requests below at = taken_below (tag + 1) requests (λ lower less. by lower (cases_lt lower tag) less) where
   by : (lower : ℕ) → (lower < tag) ⊎ (tag ≤ lower) → lower < tag + 1 → has_tag lower requests ≡ true
   by lower (inl less) h = below lower less

@@ -1,5 +1,6 @@
 -- The requests of a client that are in flight at one target: those that were sent and whose replies weren't heard.
-use Rattle.std.specs.Prelude.{◌≡◌, ℕ, ◌<◌, ◌==◌, ◌&&◌, nat_lt, if◌then◌else◌, Bool, true, false, not, List, [], ◌∷◌, filter, Option, Some, None}
+use Rattle.std.specs.Prelude.{◌≡◌, ℕ, ◌<◌, ◌==◌, ◌&&◌, nat_lt, if◌then◌else◌, Bool, true, false, not, List, [], ◌∷◌, filter, Option, Some}
+use Rattle.std.specs.Prelude.{None}
 use Rattle.lu_base.specs.declared.ids.TargetId.{TargetId}
 use Rattle.std.specs.List.{list_any}
 use Rattle.lu_msg.specs.declared.operations.Op.{Op}

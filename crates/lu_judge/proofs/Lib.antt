@@ -1,8 +1,3 @@
-pub mod Asked
-pub mod Order
-pub mod Placed
-pub mod Presents
-pub mod Rests
-pub mod Shown
-pub mod Strangers
-pub mod Wholes
+pub mod Orders
+pub mod Only
+pub mod Found

@@ -1,4 +1,2 @@
-pub mod Firsts
-pub mod Ledgers
-pub mod Places
-pub mod Tables
+pub mod Laws
+pub mod Verdicts

@@ -4,12 +4,13 @@ use Rattle.std.specs.Prelude.{ℕ, suc, nat_lt, ◌==◌, ◌&&◌, ◌||◌, no
 use Rattle.std.proofs.lemmas.Bool.{eqb-true}
 use Rattle.std.proofs.lemmas.Bool.Decides.{nat_tests}
 use Rattle.lu_base.specs.declared.ids.Who.{Who}
-use Rattle.lu_machine.specs.Tree.{same_life}
-use Rattle.lu_laws.proofs.Tests.{first_of, rest_of, life_is}
+use Rattle.lu_spec_machine.specs.Tree.{same_life}
+use Rattle.lu_spec_laws.proofs.Tests.{first_of, rest_of, life_is}
 use Rattle.lu_judge_acts.specs.Tables.{is_key}
 
 -- what is said at the keys that are this one
-same_key : {A : Type 0} (f : ℕ → Who → ℕ → A) (u : ℕ) (w : Who) (y t : ℕ) (who : Who) (x : ℕ) → is_key u w y t who x ≡ true → f u w y ≡ f t who x
+same_key : {A : Type 0} (f : ℕ → Who → ℕ → A) (u : ℕ) (w : Who) (y t : ℕ) (who : Who) (x : ℕ) → is_key u w y t who x ≡ true → f u w y
+    ≡ f t who x
 same_key f u w y t who x e =
     let there : (u == t && same_life w who) ≡ true = first_of _ _ e in
     ap (λ (z : ℕ). f u w z) (eqb-true y x (rest_of _ _ e))
@@ -34,7 +35,8 @@ pub again : (one more new : ℕ → Who → ℕ → Bool) (count : ℕ → Who �
     × (new t who x ≡ nat_lt 1 (if is_key u w y t who x then suc (count t who x) else count t who x))
 again one more new count u w y shown is puts t who x = by (is_key u w y t who x) refl (puts t who x) where
   by : (it : Bool) → is_key u w y t who x ≡ it → new t who x ≡ (if it then true else more t who x)
-      → (one t who x ≡ nat_lt 0 (if it then suc (count t who x) else count t who x)) × (new t who x ≡ nat_lt 1 (if it then suc (count t who x) else count t who x))
+      → (one t who x ≡ nat_lt 0 (if it then suc (count t who x) else count t who x))
+      × (new t who x ≡ nat_lt 1 (if it then suc (count t who x) else count t who x))
   by true e put =
       let there : one t who x ≡ true = sym (same_key one u w y t who x e) ∙ is in
       (there ∙ sym (count_some (count t who x)), put ∙ sym (count_first (count t who x) (sym (shown t who x).0 ∙ there)))
@@ -49,7 +51,8 @@ pub first : (one more new : ℕ → Who → ℕ → Bool) (count : ℕ → Who �
     × (more t who x ≡ nat_lt 1 (if is_key u w y t who x then suc (count t who x) else count t who x))
 first one more new count u w y shown is puts t who x = by (is_key u w y t who x) refl (puts t who x) where
   by : (it : Bool) → is_key u w y t who x ≡ it → new t who x ≡ (if it then true else one t who x)
-      → (new t who x ≡ nat_lt 0 (if it then suc (count t who x) else count t who x)) × (more t who x ≡ nat_lt 1 (if it then suc (count t who x) else count t who x))
+      → (new t who x ≡ nat_lt 0 (if it then suc (count t who x) else count t who x))
+      × (more t who x ≡ nat_lt 1 (if it then suc (count t who x) else count t who x))
   by true e put =
       let there : one t who x ≡ false = sym (same_key one u w y t who x e) ∙ is in
       (put ∙ sym (count_some (count t who x)), (shown t who x).1 ∙ sym (count_none (count t who x) (sym (shown t who x).0 ∙ there)))
@@ -58,7 +61,8 @@ first one more new count u w y shown is puts t who x = by (is_key u w y t who x)
 -- ---- a transaction's line
 
 -- whether it stands is asked of its own target alone
-pub own_lost : (lost : ℕ → ℕ → Bool) (u t n : ℕ) (life number v : Bool) → lost u n ≡ v → (((u == t && life) && number) && not (lost t n)) ≡ (((u == t && life) && number) && not v)
+pub own_lost : (lost : ℕ → ℕ → Bool) (u t n : ℕ) (life number v : Bool) → lost u n ≡ v → (((u == t && life) && number) && not (lost t n))
+    ≡ (((u == t && life) && number) && not v)
 own_lost lost u t n life number v is = by (u == t) refl where
   by : (same : Bool) → (u == t) ≡ same → (((same && life) && number) && not (lost t n)) ≡ (((same && life) && number) && not v)
   by true e = ap (λ (b : Bool). ((true && life) && number) && not b) (ap (λ (k : ℕ). lost k n) (sym (eqb-true u t e)) ∙ is)
@@ -79,5 +83,6 @@ lost_count lost u t n life number count is = rw (own_lost lost u t n life number
 
 -- it stands
 pub standing_one : (lost : ℕ → ℕ → Bool) (u t n : ℕ) (life number : Bool) (count : ℕ) → lost u n ≡ false
-    → (if (u == t && life) && number then suc count else count) ≡ (if ((u == t && life) && number) && not (lost t n) then suc count else count)
+    → (if (u == t && life) && number then suc count else count)
+    ≡ (if ((u == t && life) && number) && not (lost t n) then suc count else count)
 standing_one lost u t n life number count is = rw (own_lost lost u t n life number false is, and_true ((u == t && life) && number)) refl

@@ -8,9 +8,9 @@ use Rattle.lu_base.specs.declared.ids.Node.TheVariants.{Client, Target}
 use Rattle.lu_base.specs.declared.ids.Who.{Who}
 use Rattle.lu_trace.specs.declared.entries.Entry.{Entry}
 use Rattle.lu_trace.specs.declared.entries.Entry.TheVariants.{Act, Txn}
-use Rattle.lu_laws.specs.Words.Pasts.{Past, is_target, same_node, same_turn}
-use Rattle.lu_machine.specs.Tree.{same_life}
-use Rattle.lu_laws.proofs.Tests.{target_is}
+use Rattle.lu_spec_laws.specs.Words.Pasts.{Past, is_target, same_node, same_turn}
+use Rattle.lu_spec_machine.specs.Tree.{same_life}
+use Rattle.lu_spec_laws.proofs.Tests.{target_is}
 use Rattle.lu_judge_acts.specs.Tables.{ShowsExecuted}
 use Rattle.lu_judge_acts.specs.declared.executed.Executed.{Executed}
 
@@ -37,7 +37,8 @@ at_zero here node is = rw (target_is 0 here is) (by node) where
 pub key_put : (raw new : ℕ → Who → ℕ → Bool) (notion : At → Who → ℕ → Bool) (here : At) (w : Who) (y : ℕ) → is_target 0 here.node ≡ true
     → ((s : ℕ) (who : Who) (x : ℕ) → new s who x ≡ (if here.stamp.0 == s && (same_life w who && y == x) then true else raw s who x))
     → ((turn : At) (who : Who) (x : ℕ) → (is_target 0 turn.node && raw turn.stamp.0 who x) ≡ notion turn who x)
-    → (turn : At) (who : Who) (x : ℕ) → (is_target 0 turn.node && new turn.stamp.0 who x) ≡ ((((is_target 0 here.node && same_turn here turn) && same_life w who) && y == x) || notion turn who x)
+    → (turn : At) (who : Who) (x : ℕ) → (is_target 0 turn.node && new turn.stamp.0 who x)
+    ≡ ((((is_target 0 here.node && same_turn here turn) && same_life w who) && y == x) || notion turn who x)
 key_put raw new notion here w y is puts shown turn who x =
     let zero = is_target 0 turn.node in
     let stamp = here.stamp.0 == turn.stamp.0 in
@@ -45,7 +46,8 @@ key_put raw new notion here w y is puts shown turn who x =
     ap (λ (b : Bool). zero && b) (puts turn.stamp.0 who x)
     ∙ put_key zero stamp life (y == x) (raw turn.stamp.0 who x) (notion turn who x) (shown turn who x)
     ∙ ap (λ (b : Bool). (((b && (stamp && zero)) && life) && y == x) || notion turn who x) (sym is)
-    ∙ ap (λ (b : Bool). (((is_target 0 here.node && (stamp && b)) && life) && y == x) || notion turn who x) (sym (at_zero here.node turn.node is))
+    ∙ ap (λ (b : Bool). (((is_target 0 here.node && (stamp && b)) && life) && y == x) || notion turn who x)
+    (sym (at_zero here.node turn.node is))
 
 -- the transaction stands
 

@@ -11,8 +11,8 @@ use Rattle.lu_msg.specs.declared.messages.Message.{Message}
 use Rattle.lu_trace.specs.declared.entries.Entry.{Entry}
 use Rattle.lu_trace.specs.declared.entries.Entry.TheVariants.{Begin, Send, Told, Txn}
 use Rattle.lu_trace.specs.declared.entries.Line.{Line}
-use Rattle.lu_laws.specs.Words.Pasts.{Past}
-use Rattle.lu_laws.specs.Laws.Acts.{ActsAt}
+use Rattle.lu_spec_laws.specs.Words.Pasts.{Past}
+use Rattle.lu_spec_laws.specs.Laws.Acts.{ActsAt}
 
 pub asks_nothing : (out : Who → Bool) (lost : ℕ → ℕ → Bool) (whole past : Past) (l : Line) (later : List Line) (e : Entry)
     → ((slot : ℕ) (call : Call) → e ≡ Begin slot call → ⊥)
@@ -23,5 +23,6 @@ pub asks_nothing : (out : Who → Bool) (lost : ℕ → ℕ → Bool) (whole pas
 asks_nothing out lost whole past l later (Begin slot call) begins sends tells makes = absurd (begins slot call refl)
 asks_nothing out lost whole past l later (Send number to message) begins sends tells makes = absurd (sends number to message refl)
 asks_nothing out lost whole past l later (Told slot turn answer) begins sends tells makes = absurd (tells slot turn answer refl)
-asks_nothing out lost whole past l later (Txn number who xid seen answer) begins sends tells makes = absurd (makes number who xid seen answer refl)
+asks_nothing out lost whole past l later (Txn number who xid seen answer) begins sends tells makes =
+    absurd (makes number who xid seen answer refl)
 asks_nothing out lost whole past l later _ begins sends tells makes = tt

@@ -3,10 +3,10 @@ use Rattle.std.specs.Prelude.{◌≡◌, ◌≢◌, ℕ, ◌<◌, ◌≤◌, fal
 use Rattle.lu_base.specs.declared.ids.Who.{Who}
 use Rattle.lu_msg.specs.declared.messages.Request.{Request as RequestOf}
 use Rattle.lu_msg.specs.Limits.{tag_count}
-use Rattle.lu_machine.specs.Footprint.{Every}
-use Rattle.lu_laws.specs.Words.Pasts.{Past}
-use Rattle.lu_laws.specs.Words.Requests.{in_flight, same_object}
-use Rattle.lu_laws.specs.Laws.Acts.{Pairwise}
+use Rattle.lu_spec_machine.specs.Footprint.{Every}
+use Rattle.lu_spec_laws.specs.Words.Pasts.{Past}
+use Rattle.lu_spec_laws.specs.Words.Requests.{in_flight, same_object}
+use Rattle.lu_spec_laws.specs.Laws.Acts.{Pairwise}
 
 -- at most eight, no two with one tag, and at an object storage target no two on one object
 pub record Flies (t : ℕ) (flight : List RequestOf) : Type 0 where

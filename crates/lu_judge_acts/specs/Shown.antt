@@ -1,7 +1,7 @@
 -- The tables of the judge of acts show the lines so far.
 use Rattle.std.specs.Prelude.{reverse}
-use Rattle.lu_laws.specs.Words.Pasts.{Past}
-use Rattle.lu_judge.specs.Ledgers.{ShowsLedger, ShowsGone}
+use Rattle.lu_spec_laws.specs.Words.Pasts.{Past}
+use Rattle.lu_judge_pass.specs.Ledgers.{ShowsLedger, ShowsGone}
 use Rattle.lu_judge_windows.specs.Lost.{ShowsLost}
 use Rattle.lu_judge_calls.specs.Tables.{ShowsOpenCalls}
 use Rattle.lu_judge_acts.specs.Flying.{AllFly}

@@ -6,11 +6,11 @@ use Rattle.std.specs.HashSet.{contains_by}
 use Rattle.lu_base.specs.declared.ids.At.{At}
 use Rattle.lu_base.specs.declared.ids.Who.{Who}
 use Rattle.lu_msg.specs.declared.messages.Request.{Request as RequestOf}
-use Rattle.lu_machine.specs.Tree.{same_life}
-use Rattle.lu_laws.specs.Words.Pasts.{Past, is_target}
-use Rattle.lu_laws.specs.Words.Lost.{is_lost}
-use Rattle.lu_laws.specs.Words.Requests.{has_heard, has_number, in_flight}
-use Rattle.lu_laws.specs.Laws.Acts.{acted, made, standing_count, told_with}
+use Rattle.lu_spec_machine.specs.Tree.{same_life}
+use Rattle.lu_spec_laws.specs.Words.Pasts.{Past, is_target}
+use Rattle.lu_spec_laws.specs.Words.Lost.{is_lost}
+use Rattle.lu_spec_laws.specs.Words.Requests.{has_heard, has_number, in_flight}
+use Rattle.lu_spec_laws.specs.Laws.Acts.{acted, made, standing_count, told_with}
 use Rattle.lu_judge_acts.specs.declared.elsewhere.Elsewhere.{Elsewhere}
 use Rattle.lu_judge_acts.specs.declared.executed.Executed.{Executed}
 use Rattle.lu_judge_acts.specs.declared.flights.Flights.{Flights}
@@ -91,7 +91,8 @@ flight_after t target r = if adds t target r then r ∷ flight_in t target r.who
 
 -- a request was sent to the target
 pub record Sends (old new : Flights) (target : ℕ) (r : RequestOf) : Type 0 where
-  pub flights : (t : ℕ) (who : Who) → flight_in new t who ≡ (if is_at target r.who t who then flight_after old target r else flight_in old t who)
+  pub flights : (t : ℕ) (who : Who) → flight_in new t who ≡ (if is_at target r.who t who then flight_after old target r
+      else flight_in old t who)
   pub heard : new.heard ≡ old.heard
 
 pub record ShowsFlights (t : Flights) (past : Past) : Type 0 where

@@ -2,13 +2,13 @@
 
 ghost use Rattle.std.specs.Prelude.{◌≡◌};
 ghost use Rattle.std.specs.Option.{option_map};
-ghost use Rattle.lu_laws.specs.Words.Later.{told_later};
-ghost use Rattle.lu_laws.specs.Laws.Acts.{is_bad_handle, is_end_of_life, is_local, names_own};
-ghost use Rattle.lu_judge.specs.Places.{InOrder};
+ghost use Rattle.lu_spec_laws.specs.Words.Later.{told_later};
+ghost use Rattle.lu_spec_laws.specs.Laws.Acts.{is_bad_handle, is_end_of_life, is_local, names_own};
+ghost use Rattle.lu_judge_pass.specs.Places.{InOrder};
 ghost use Rattle.lu_judge_acts.specs.Answers.{told_at};
 
 use lu_base::At;
-use lu_judge::same_turn;
+use lu_judge_pass::same_turn;
 use lu_msg::{Answer, Call, Errno};
 use lu_trace::{Entry, Line};
 

@@ -3,14 +3,14 @@
 ghost use Rattle.std.specs.Prelude.{◌≡◌, ℕ, [], ◌∷◌, OnOk};
 ghost use Rattle.lu_msg.specs.declared.answers.Answer.{Answer};
 ghost use Rattle.lu_trace.specs.declared.entries.Line.{Line};
-ghost use Rattle.lu_laws.specs.Words.Pasts.{Past};
-ghost use Rattle.lu_laws.specs.Laws.Messages.{Follows};
-ghost use Rattle.lu_judge.specs.Places.{Ordered};
-ghost use Rattle.lu_judge.specs.Ledgers.{ShowsLedger};
+ghost use Rattle.lu_spec_laws.specs.Words.Pasts.{Past};
+ghost use Rattle.lu_spec_laws.specs.Laws.Messages.{Follows};
+ghost use Rattle.lu_judge_pass.specs.Places.{Ordered};
+ghost use Rattle.lu_judge_pass.specs.Ledgers.{ShowsLedger};
 ghost use Rattle.lu_judge_acts.specs.Tables.{told_in, ShowsTold};
 
 use lu_base::{At, Memory, Node, Who, Xid};
-use lu_judge::{Ledger, same_turn};
+use lu_judge_pass::{Ledger, same_turn};
 use lu_trace::{Entry, Line};
 use std::alloc::Global;
 use std::collections::HashSet;

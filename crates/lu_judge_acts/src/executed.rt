@@ -2,12 +2,12 @@
 
 ghost use Rattle.std.specs.Prelude.{◌≡◌, [], ◌∷◌, OnOk};
 ghost use Rattle.lu_trace.specs.declared.entries.Line.{Line};
-ghost use Rattle.lu_laws.specs.Words.Pasts.{Past};
+ghost use Rattle.lu_spec_laws.specs.Words.Pasts.{Past};
 ghost use Rattle.lu_judge_windows.specs.Lost.{ShowsLost};
 ghost use Rattle.lu_judge_acts.specs.Tables.{acted_in, made_in, ShowsExecuted};
 
 use lu_base::{At, Memory, Node, Who, Xid};
-use lu_judge::same_node;
+use lu_judge_pass::same_node;
 use lu_judge_windows::Lost;
 use lu_trace::{Entry, Line};
 use std::alloc::Global;

@@ -1,7 +1,7 @@
 //! The objects that operations are on.
 
 ghost use Rattle.std.specs.Prelude.{◌≡◌};
-ghost use Rattle.lu_laws.specs.Words.Requests.{object, same_resource, same_object};
+ghost use Rattle.lu_spec_laws.specs.Words.Requests.{object, same_resource, same_object};
 
 use lu_base::Resource;
 use lu_msg::{Op, Request};

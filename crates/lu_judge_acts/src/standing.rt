@@ -3,9 +3,9 @@
 ghost use Rattle.std.specs.Prelude.{◌≡◌, ℕ, suc, if◌then◌else◌, [], ◌∷◌, reverse, IfOk, OnOk};
 ghost use Rattle.lu_base.specs.declared.ids.Who.{Who as SpecWho};
 ghost use Rattle.lu_trace.specs.declared.entries.Line.{Line};
-ghost use Rattle.lu_laws.specs.Words.Pasts.{Past};
-ghost use Rattle.lu_laws.specs.Words.Lost.{is_lost};
-ghost use Rattle.lu_laws.specs.Laws.Acts.{standing_count};
+ghost use Rattle.lu_spec_laws.specs.Words.Pasts.{Past};
+ghost use Rattle.lu_spec_laws.specs.Words.Lost.{is_lost};
+ghost use Rattle.lu_spec_laws.specs.Laws.Acts.{standing_count};
 ghost use Rattle.lu_judge_windows.specs.Lost.{ShowsLost};
 ghost use Rattle.lu_judge_acts.specs.Tables.{one_in, more_in, is_key, Counts, ShowsStanding};
 

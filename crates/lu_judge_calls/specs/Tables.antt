@@ -5,8 +5,8 @@ use Rattle.std.specs.HashMap.{get_by}
 use Rattle.lu_base.specs.declared.ids.At.{At}
 use Rattle.lu_base.specs.declared.ids.Txn.{Txn as TxnOf}
 use Rattle.lu_base.specs.declared.ids.Who.{Who}
-use Rattle.lu_laws.specs.Words.Pasts.{Past, is_target}
-use Rattle.lu_laws.specs.Words.Calls.{Binding, Begun, binding, open_call, number_in}
+use Rattle.lu_spec_laws.specs.Words.Pasts.{Past, is_target}
+use Rattle.lu_spec_laws.specs.Words.Calls.{Binding, Begun, binding, open_call, number_in}
 use Rattle.lu_judge_calls.specs.declared.begun.Binding.{Binding as KeptBinding}
 use Rattle.lu_judge_calls.specs.declared.begun.Begun.{Begun as Kept}
 use Rattle.lu_judge_calls.specs.declared.handles.Handles.{Handles}

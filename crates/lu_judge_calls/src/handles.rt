@@ -3,7 +3,7 @@
 ghost use Rattle.std.specs.Prelude.{◌≡◌, ℕ, ◌==◌, ◌&&◌, if◌then◌else◌, Some, None, OnOk};
 ghost use Rattle.std.specs.Option.{option_map};
 ghost use Rattle.lu_base.specs.declared.ids.Who.{Who};
-ghost use Rattle.lu_laws.specs.Words.Calls.{begun_binding, told_binding};
+ghost use Rattle.lu_spec_laws.specs.Words.Calls.{begun_binding, told_binding};
 ghost use Rattle.lu_judge_calls.specs.Tables.{binding_of, binding_in, is_life};
 
 use super::begun::Binding;

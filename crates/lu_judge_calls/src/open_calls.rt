@@ -3,18 +3,18 @@
 ghost use Rattle.std.specs.Prelude.{◌≡◌, [], ◌∷◌, OnOk, is_some};
 ghost use Rattle.std.specs.Option.{option_map};
 ghost use Rattle.lu_trace.specs.declared.entries.Line.{Line};
-ghost use Rattle.lu_laws.specs.Words.Pasts.{Past};
-ghost use Rattle.lu_laws.specs.Words.Calls.{open_call, call_in, heard_in, number_heard, opens, is_opening, bound_to, bound_by, handle_of, is_bad};
-ghost use Rattle.lu_laws.specs.Laws.Messages.{Follows};
-ghost use Rattle.lu_judge.specs.Places.{Ordered};
-ghost use Rattle.lu_judge.specs.Ledgers.{ShowsLedger};
+ghost use Rattle.lu_spec_laws.specs.Words.Pasts.{Past};
+ghost use Rattle.lu_spec_laws.specs.Words.Calls.{open_call, call_in, heard_in, number_heard, opens, is_opening, bound_to, bound_by, handle_of, is_bad};
+ghost use Rattle.lu_spec_laws.specs.Laws.Messages.{Follows};
+ghost use Rattle.lu_judge_pass.specs.Places.{Ordered};
+ghost use Rattle.lu_judge_pass.specs.Ledgers.{ShowsLedger};
 ghost use Rattle.lu_judge_calls.specs.Tables.{begun_of, binding_of, ShowsOpenCalls};
 
 use super::begun::{Begun, Binding};
 use super::handles::Handles;
 use super::transactions::Transactions;
 use lu_base::{At, Memory, Node, Txn, Who};
-use lu_judge::Ledger;
+use lu_judge_pass::Ledger;
 use lu_msg::{Answer, Call};
 use lu_trace::{Entry, Line};
 use std::alloc::Global;

@@ -2,7 +2,7 @@
 
 ghost use Rattle.std.specs.Prelude.{◌≡◌, Some, IfOk, IsTrue, ◌↔◌};
 ghost use Rattle.std.specs.Option.{option_map};
-ghost use Rattle.lu_laws.specs.Words.Calls.{operation, closes, file_of};
+ghost use Rattle.lu_spec_laws.specs.Words.Calls.{operation, closes, file_of};
 ghost use Rattle.lu_judge_calls.specs.Tables.{begun_of, binding_of, stripes_or};
 
 use super::begun::{Begun, Binding};

@@ -2,7 +2,7 @@
 
 ghost use Rattle.std.specs.Prelude.{◌≡◌, [], ◌∷◌, OnOk};
 ghost use Rattle.lu_trace.specs.declared.entries.Line.{Line};
-ghost use Rattle.lu_laws.specs.Words.Pasts.{Past};
+ghost use Rattle.lu_spec_laws.specs.Words.Pasts.{Past};
 ghost use Rattle.lu_judge_calls.specs.Tables.{number_of, ShowsTransactions};
 
 use lu_base::{At, Memory, Node, Txn, Who, Xid};

@@ -1,3 +1,8 @@
+pub mod Few
+pub mod Formed
+pub mod Kept
+pub mod Put
+pub mod Standing
 pub mod Ended
 pub mod Looks
 pub mod Loops

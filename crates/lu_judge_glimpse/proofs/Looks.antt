@@ -3,13 +3,13 @@ use Rattle.std.proofs.Common.{◌≡◌, ℕ, ◌+◌, ◌-◌, ◌<◌, true, f
 use Rattle.std.specs.Prelude.{reverse}
 use Rattle.std.specs.HashMap.{values}
 use Rattle.lu_base.specs.declared.ids.Fid.{Fid}
-use Rattle.lu_laws.specs.Words.Glimpses.{machine_cut}
-use Rattle.lu_laws.specs.Laws.Glimpse.{Glimpse}
-use Rattle.lu_judge_sizes.specs.declared.histories.History.{History}
-use Rattle.lu_judge_sizes.specs.declared.sightings.Sightings.{Sightings}
-use Rattle.lu_judge_sizes.specs.Histories.{ShowsHistory}
-use Rattle.lu_judge_sizes.specs.Sightings.{last_in}
-use Rattle.lu_judge_sizes.proofs.Put.{before_length}
+use Rattle.lu_spec_laws.specs.Words.Glimpses.{machine_cut}
+use Rattle.lu_spec_laws.specs.Laws.Glimpse.{Glimpse}
+use Rattle.lu_judge_glimpse.specs.declared.histories.History.{History}
+use Rattle.lu_judge_glimpse.specs.declared.sightings.Sightings.{Sightings}
+use Rattle.lu_judge_glimpse.specs.Histories.{ShowsHistory}
+use Rattle.lu_judge_glimpse.specs.Sightings.{last_in}
+use Rattle.lu_judge_glimpse.proofs.Put.{before_length}
 use Rattle.lu_judge_glimpse.specs.declared.glimpses.Pass.{Pass}
 use Rattle.lu_judge_glimpse.specs.Shown.{turn_end, past_of, later_of, Stepped, Looked, Pending, is_cut}
 use Rattle.lu_judge_glimpse.specs.Wanted.{meets}
@@ -39,8 +39,19 @@ looked_none p stepped some cut none = record {
 -- it is cut, and the watched files are seen
 pub looked_cut : (p : Pass) → Stepped p → 0 < p.place → is_cut (past_of p) (later_of p) ≡ true → (h : History) → h.osts ≡ p.history.osts
     → ShowsHistory h (past_of p) → (s : Sightings)
-    → ((f : Fid) (stripe size : ℕ) → last_in s f stripe size ≡ seen_after (machine_cut h.osts (past_of p)) (p.place - 1) (logged (values p.standing) f stripe) f stripe size (last_in p.sightings f stripe size))
-    → Looked (record { lines = p.lines; place = p.place; out = p.out; counts = p.counts; tables = p.tables; history = h; sightings = s; standing = p.standing; wanted = p.wanted })
+    → ((f : Fid) (stripe size : ℕ) → last_in s f stripe size ≡ seen_after (machine_cut h.osts (past_of p)) (p.place - 1)
+    (logged (values p.standing) f stripe) f stripe size (last_in p.sightings f stripe size))
+    → Looked (record {
+      lines = p.lines;
+      place = p.place;
+      out = p.out;
+      counts = p.counts;
+      tables = p.tables;
+      history = h;
+      sightings = s;
+      standing = p.standing;
+      wanted = p.wanted;
+    })
 looked_cut p stepped some cut h osts shows s seen =
     let kept = stepped.kept in
     record {
@@ -59,10 +70,12 @@ looked_cut p stepped some cut h osts shows s seen =
             (subst (λ (n : ℕ). Below p.sightings n) (sym (back p.place some)) kept.below));
         covers = kept.covers;
         fresh = kept.fresh;
-        pending = subst (λ (n : ℕ). Pending (Glimpse n (reverse p.lines.now)) p.lines.now p.place (meets (machine_cut n (turn_end (past_of p) (later_of p)))) p.wanted.items) (sym osts) kept.pending;
+        pending = subst (λ (n : ℕ). Pending (Glimpse n (reverse p.lines.now)) p.lines.now p.place
+            (meets (machine_cut n (turn_end (past_of p) (later_of p)))) p.wanted.items) (sym osts) kept.pending;
       };
       seen =
           seen_end h.osts p.counts p.sightings s p.standing.entries (p.place - 1) (past_of p) (later_of p)
           (back p.place some ∙ sym (before_length p.lines.now p.place kept.within)) cut kept.covers seen
-          (subst (λ (n : ℕ). SeenOver p.sightings p.counts n (λ client slot. earlier client slot (past_of p)) (past_of p)) (sym osts) stepped.seen);
+          (subst (λ (n : ℕ). SeenOver p.sightings p.counts n (λ client slot. earlier client slot (past_of p)) (past_of p)) (sym osts)
+          stepped.seen);
     }

@@ -3,12 +3,12 @@ use Rattle.std.proofs.Common.{◌≡◌, ℕ, ◌<◌, ◌≤◌, Bool, true, fa
 use Rattle.std.specs.Prelude.{reverse, Option, Some, None}
 use Rattle.std.proofs.lemmas.List.{drop_all}
 use Rattle.lu_trace.specs.declared.entries.Line.{Line}
-use Rattle.lu_laws.specs.Words.Pasts.{Past}
-use Rattle.lu_laws.specs.Words.Glimpses.{machine_cut}
-use Rattle.lu_laws.specs.Laws.Glimpse.{Glimpse}
-use Rattle.lu_judge.specs.Firsts.{HoldsBelow, IsFirst}
-use Rattle.lu_judge_sizes.specs.declared.counts.Counts.{Counts}
-use Rattle.lu_judge_sizes.specs.declared.sightings.Sightings.{Sightings}
+use Rattle.lu_spec_laws.specs.Words.Pasts.{Past}
+use Rattle.lu_spec_laws.specs.Words.Glimpses.{machine_cut}
+use Rattle.lu_spec_laws.specs.Laws.Glimpse.{Glimpse}
+use Rattle.lu_judge_pass.specs.Firsts.{HoldsBelow, IsFirst}
+use Rattle.lu_judge_glimpse.specs.declared.counts.Counts.{Counts}
+use Rattle.lu_judge_glimpse.specs.declared.sightings.Sightings.{Sightings}
 use Rattle.lu_judge_glimpse.specs.declared.glimpses.Pass.{Pass}
 use Rattle.lu_judge_glimpse.specs.declared.wanted.Wanted.{Wanted}
 use Rattle.lu_judge_glimpse.specs.Shown.{ends, turn_end, law_of, past_of, later_of, Shown}
@@ -30,14 +30,20 @@ all_hold p shown past_all j below d =
     let none : drop p.place p.lines.now ≡ [] = drop_all p.place p.lines.now past_all in
     let done : p.wanted.items ≡ [] = shown.done (ap (ends (past_of p)) none ∙ ends_none (past_of p)) in
     let least : IsLeast (meets (machine_cut p.history.osts (turn_end (past_of p) (later_of p)))) p.wanted.items None =
-    subst (λ (ws : List Wanted). IsLeast (meets (machine_cut p.history.osts (turn_end (past_of p) (later_of p)))) ws None) (sym done) (λ i. refl)
+    subst (λ (ws : List Wanted). IsLeast (meets (machine_cut p.history.osts (turn_end (past_of p) (later_of p)))) ws None) (sym done)
+    (λ i. refl)
     in
-    none_holds (law_of p) p.lines.now p.place (meets (machine_cut p.history.osts (turn_end (past_of p) (later_of p)))) p.wanted.items shown.kept.pending least j (omega (arith, below, past_all)) d
+    none_holds (law_of p) p.lines.now p.place (meets (machine_cut p.history.osts (turn_end (past_of p) (later_of p)))) p.wanted.items
+    shown.kept.pending least j (omega (arith, below, past_all)) d
 
-pub same_first : (lines others : List Line) (m n : ℕ) (o : Option ℕ) → lines ≡ others → m ≡ n → IsFirst (Glimpse m (reverse lines)) lines o → IsFirst (Glimpse n (reverse others)) others o
+pub same_first : (lines others : List Line) (m n : ℕ) (o : Option ℕ) → lines ≡ others → m ≡ n → IsFirst (Glimpse m (reverse lines)) lines o
+    → IsFirst (Glimpse n (reverse others)) others o
 same_first lines others m n o same equal first =
-    subst (λ (k : ℕ). IsFirst (Glimpse k (reverse others)) others o) equal (subst (λ (ls : List Line). IsFirst (Glimpse m (reverse ls)) ls o) same first)
+    subst (λ (k : ℕ). IsFirst (Glimpse k (reverse others)) others o) equal
+    (subst (λ (ls : List Line). IsFirst (Glimpse m (reverse ls)) ls o) same first)
 
-pub same_holds : (lines others : List Line) (m n : ℕ) → lines ≡ others → m ≡ n → HoldsBelow (Glimpse m (reverse lines)) lines (length lines) → HoldsBelow (Glimpse n (reverse others)) others (length others)
+pub same_holds : (lines others : List Line) (m n : ℕ) → lines ≡ others → m ≡ n → HoldsBelow (Glimpse m (reverse lines)) lines (length lines)
+    → HoldsBelow (Glimpse n (reverse others)) others (length others)
 same_holds lines others m n same equal holds =
-    subst (λ (k : ℕ). HoldsBelow (Glimpse k (reverse others)) others (length others)) equal (subst (λ (ls : List Line). HoldsBelow (Glimpse m (reverse ls)) ls (length ls)) same holds)
+    subst (λ (k : ℕ). HoldsBelow (Glimpse k (reverse others)) others (length others)) equal
+    (subst (λ (ls : List Line). HoldsBelow (Glimpse m (reverse ls)) ls (length ls)) same holds)

@@ -6,8 +6,8 @@ use Rattle.lu_base.specs.declared.ids.Stamp.{Stamp}
 use Rattle.lu_base.specs.declared.ids.Node.{Node}
 use Rattle.lu_base.specs.declared.ids.Node.TheVariants.{Client, Target}
 use Rattle.lu_trace.specs.declared.entries.Line.{Line}
-use Rattle.lu_laws.specs.Words.Pasts.{Past, is_client, is_target, same_node, same_turn}
-use Rattle.lu_laws.specs.Words.Glimpses.{to_turn_end}
+use Rattle.lu_spec_laws.specs.Words.Pasts.{Past, is_client, is_target, same_node, same_turn}
+use Rattle.lu_spec_laws.specs.Words.Glimpses.{to_turn_end}
 use Rattle.lu_judge_glimpse.specs.Shown.{turn_end, ends}
 use Rattle.lu_judge_glimpse.proofs.Numbers.{eq_same, eq_is, and_left, and_right, and_true}
 
@@ -28,7 +28,8 @@ turn_is : (a b : At) → same_turn a b ≡ true → a ≡ b
 turn_is a b is =
     let stamps : a.stamp.0 ≡ b.stamp.0 = eq_is a.stamp.0 b.stamp.0 (and_left (a.stamp.0 == b.stamp.0) (same_node a.node b.node) is) in
     let nodes : a.node ≡ b.node = node_is a.node b.node (and_right (a.stamp.0 == b.stamp.0) (same_node a.node b.node) is) in
-    ap (λ (n : ℕ). record { stamp = record { 0 = n }; node = a.node }) stamps ∙ ap (λ (n : Node). record { stamp = record { 0 = b.stamp.0 }; node = n }) nodes
+    ap (λ (n : ℕ). record { stamp = record { 0 = n }; node = a.node }) stamps
+    ∙ ap (λ (n : Node). record { stamp = record { 0 = b.stamp.0 }; node = n }) nodes
 
 turn_other : (a b : At) → same_turn a b ≡ false → same_turn b a ≡ false
 turn_other a b is = by (same_turn b a) refl
@@ -38,7 +39,8 @@ turn_other a b is = by (same_turn b a) refl
     by true e = absurd (cc (is, subst (λ (x : At). same_turn a x ≡ true) (sym (turn_is b a e)) (turn_same a)))
 
 -- the turn goes on with the next line
-pub turn_goes_on : (k l : Line) (past : Past) (later : List Line) → same_turn k.at l.at ≡ true → turn_end (k ∷ past) (l ∷ later) ≡ turn_end (l ∷ k ∷ past) later
+pub turn_goes_on : (k l : Line) (past : Past) (later : List Line) → same_turn k.at l.at ≡ true → turn_end (k ∷ past) (l ∷ later)
+    ≡ turn_end (l ∷ k ∷ past) later
 turn_goes_on k l past later is =
     let same : k.at ≡ l.at = turn_is k.at l.at is in
     let back : same_turn l.at k.at ≡ true = subst (λ (a : At). same_turn l.at a ≡ true) (sym same) (turn_same l.at) in
@@ -50,7 +52,8 @@ pub ended_here : (past : Past) (later : List Line) → ends past later ≡ true 
 ended_here [] later is = refl
 ended_here (k ∷ past) [] is = refl
 ended_here (k ∷ past) (l ∷ later) is =
-    ap (λ (v : Bool). if v then to_turn_end k.at later (l ∷ k ∷ past) else (k ∷ past)) (turn_other k.at l.at (not_true (same_turn k.at l.at) is))
+    ap (λ (v : Bool). if v then to_turn_end k.at later (l ∷ k ∷ past) else (k ∷ past))
+    (turn_other k.at l.at (not_true (same_turn k.at l.at) is))
   where
     not_true : (v : Bool) → not v ≡ true → v ≡ false
     not_true false e = refl

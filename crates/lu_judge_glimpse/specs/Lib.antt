@@ -1,3 +1,8 @@
+pub mod Begins
+pub mod Histories
+pub mod Items
+pub mod Locks
+pub mod Sightings
 pub mod Shown
 pub mod Tables
 pub mod Told

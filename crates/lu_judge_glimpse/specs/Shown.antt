@@ -1,17 +1,18 @@
 -- The pass over the lines of a trace: what it knows of them before a line, and after one.
-use Rattle.std.specs.Prelude.{◌≡◌, ℕ, ◌+◌, ◌<◌, ◌≤◌, Bool, true, false, not, ◌==◌, ◌&&◌, if◌then◌else◌, ◌↔◌, Option, Some, None, List, [], ◌∷◌, length, drop, reverse, slice_index_or, All}
+use Rattle.std.specs.Prelude.{◌≡◌, ℕ, ◌+◌, ◌<◌, ◌≤◌, Bool, true, false, not, ◌==◌, ◌&&◌, if◌then◌else◌, ◌↔◌, Option, Some, None, List, []}
+use Rattle.std.specs.Prelude.{◌∷◌, length, drop, reverse, slice_index_or, All}
 use Rattle.std.specs.HashMap.{HashMap, get_by}
 use Rattle.lu_trace.specs.declared.entries.Line.{Line}
 use Rattle.lu_trace.specs.WellFormed.{IsLine}
-use Rattle.lu_machine.specs.Footprint.{Every}
-use Rattle.lu_laws.specs.Words.Pasts.{Past, same_turn}
-use Rattle.lu_laws.specs.Words.Glimpses.{to_turn_end, goes_on, machine_cut}
-use Rattle.lu_laws.specs.Laws.Glimpse.{Glimpse}
-use Rattle.lu_judge.specs.Firsts.{before, HoldsBelow}
-use Rattle.lu_judge.specs.Ledgers.{ShowsGone}
-use Rattle.lu_judge.specs.Places.{PlacedIn}
-use Rattle.lu_judge_sizes.specs.Begins.{Counted}
-use Rattle.lu_judge_sizes.specs.Histories.{ShowsHistory}
+use Rattle.lu_spec_machine.specs.Footprint.{Every}
+use Rattle.lu_spec_laws.specs.Words.Pasts.{Past, same_turn}
+use Rattle.lu_spec_laws.specs.Words.Glimpses.{to_turn_end, goes_on, machine_cut}
+use Rattle.lu_spec_laws.specs.Laws.Glimpse.{Glimpse}
+use Rattle.lu_judge_pass.specs.Firsts.{before, HoldsBelow}
+use Rattle.lu_judge_pass.specs.Ledgers.{ShowsGone}
+use Rattle.lu_judge_pass.specs.Places.{PlacedIn}
+use Rattle.lu_judge_glimpse.specs.Begins.{Counted}
+use Rattle.lu_judge_glimpse.specs.Histories.{ShowsHistory}
 use Rattle.lu_judge_glimpse.specs.declared.glimpses.Pass.{Pass}
 use Rattle.lu_judge_glimpse.specs.declared.glimpses.Watch.{Watch}
 use Rattle.lu_judge_glimpse.specs.declared.wanted.Wanted.{Wanted}
@@ -74,7 +75,8 @@ pub record Kept (p : Pass) : Type 0 where
   pub below : Below p.sightings p.place
   pub covers : Covers (watch_at p.standing) p.counts (past_of p)
   pub fresh : Fresh p.place p.wanted.items
-  pub pending : Pending (law_of p) p.lines.now p.place (meets (machine_cut p.history.osts (turn_end (past_of p) (later_of p)))) p.wanted.items
+  pub pending : Pending (law_of p) p.lines.now p.place (meets (machine_cut p.history.osts (turn_end (past_of p) (later_of p))))
+      p.wanted.items
 
 -- before the next line
 pub record Shown (p : Pass) : Type 0 where

@@ -1,10 +1,10 @@
 -- The tables show the lines so far.
-use Rattle.lu_laws.specs.Words.Pasts.{Past}
-use Rattle.lu_judge.specs.Ledgers.{ShowsLedger, ShowsGone}
+use Rattle.lu_spec_laws.specs.Words.Pasts.{Past}
+use Rattle.lu_judge_pass.specs.Ledgers.{ShowsLedger, ShowsGone}
 use Rattle.lu_judge_calls.specs.Tables.{ShowsOpenCalls}
 use Rattle.lu_judge_windows.specs.Windows.{ShowsWindows}
-use Rattle.lu_judge_sizes.specs.Begins.{ShowsBegins}
-use Rattle.lu_judge_sizes.specs.Locks.{ShowsLocks}
+use Rattle.lu_judge_glimpse.specs.Begins.{ShowsBegins}
+use Rattle.lu_judge_glimpse.specs.Locks.{ShowsLocks}
 use Rattle.lu_judge_glimpse.specs.declared.tables.Tables.{Tables}
 
 pub record ShowsTables (t : Tables) (past : Past) : Type 0 where

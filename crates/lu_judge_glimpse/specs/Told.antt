@@ -6,12 +6,12 @@ use Rattle.lu_base.specs.declared.ids.Who.{Who}
 use Rattle.lu_msg.specs.declared.answers.Answer.TheVariants as told
 use Rattle.lu_trace.specs.declared.entries.Entry.{Entry}
 use Rattle.lu_trace.specs.declared.entries.Entry.TheVariants.{Told}
-use Rattle.lu_laws.specs.Words.Pasts.{Past}
-use Rattle.lu_laws.specs.Words.Lives.{who_is}
-use Rattle.lu_laws.specs.Words.Calls.{Begun, open_call, file_of}
-use Rattle.lu_judge_sizes.specs.declared.sightings.Sightings.{Sightings}
-use Rattle.lu_judge_sizes.specs.Begins.{begun_place}
-use Rattle.lu_judge_sizes.specs.Sightings.{since_in}
+use Rattle.lu_spec_laws.specs.Words.Pasts.{Past}
+use Rattle.lu_spec_laws.specs.Words.Lives.{who_is}
+use Rattle.lu_spec_laws.specs.Words.Calls.{Begun, open_call, file_of}
+use Rattle.lu_judge_glimpse.specs.declared.sightings.Sightings.{Sightings}
+use Rattle.lu_judge_glimpse.specs.Begins.{begun_place}
+use Rattle.lu_judge_glimpse.specs.Sightings.{since_in}
 use Rattle.lu_judge_glimpse.specs.declared.wanted.Wanted.{Wanted}
 use Rattle.lu_judge_glimpse.specs.Wanted.{wanted_of}
 

@@ -1,8 +1,9 @@
 -- Sizes that must be those of objects when the turn ends.
-use Rattle.std.specs.Prelude.{◌≡◌, ℕ, suc, ◌<◌, Bool, true, false, not, nat_le, ◌==◌, ◌&&◌, ◌||◌, if◌then◌else◌, Option, Some, None, List, [], ◌∷◌}
+use Rattle.std.specs.Prelude.{◌≡◌, ℕ, suc, ◌<◌, Bool, true, false, not, nat_le, ◌==◌, ◌&&◌, ◌||◌, if◌then◌else◌, Option, Some, None, List}
+use Rattle.std.specs.Prelude.{[], ◌∷◌}
 use Rattle.lu_base.specs.declared.ids.Fid.{Fid}
-use Rattle.lu_machine.specs.Machine.{Machine}
-use Rattle.lu_laws.specs.Words.Glimpses.{has_size}
+use Rattle.lu_spec_machine.specs.Machine.{Machine}
+use Rattle.lu_spec_laws.specs.Words.Glimpses.{has_size}
 use Rattle.lu_judge_glimpse.specs.declared.wanted.Wanted.{Wanted}
 
 -- the object has this size

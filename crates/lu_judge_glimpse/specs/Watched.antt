@@ -1,20 +1,21 @@
 -- What is seen of objects, and of which calls.
-use Rattle.std.specs.Prelude.{◌≡◌, ℕ, ◌<◌, Bool, true, false, nat_lt, nat_eq, ◌==◌, ◌&&◌, ◌||◌, if◌then◌else◌, Option, Some, None, List, [], ◌∷◌, map}
+use Rattle.std.specs.Prelude.{◌≡◌, ℕ, ◌<◌, Bool, true, false, nat_lt, nat_eq, ◌==◌, ◌&&◌, ◌||◌, if◌then◌else◌, Option, Some, None, List, []}
+use Rattle.std.specs.Prelude.{◌∷◌, map}
 use Rattle.std.specs.List.{list_any}
 use Rattle.std.specs.Map.{lookup}
 use Rattle.lu_base.specs.declared.ids.Fid.{Fid}
 use Rattle.lu_trace.specs.declared.entries.Entry.TheVariants.{Begin, Told, Peek}
 use Rattle.lu_trace.specs.declared.entries.Line.{Line}
-use Rattle.lu_machine.specs.Machine.{Machine, object_of}
-use Rattle.lu_machine.specs.Objects.{object_size}
-use Rattle.lu_laws.specs.Words.Pasts.{Past, is_client}
-use Rattle.lu_laws.specs.Words.Calls.{Begun, open_call, file_of}
-use Rattle.lu_laws.specs.Words.Seen.{lock_with}
-use Rattle.lu_laws.specs.Words.Glimpses.{begins, cuts, machine_cut, has_size, is_gone_at, locks_object, peeked}
-use Rattle.lu_judge_sizes.specs.declared.counts.Counts.{Counts}
-use Rattle.lu_judge_sizes.specs.declared.sightings.Sightings.{Sightings}
-use Rattle.lu_judge_sizes.specs.Begins.{begun_place, count_in}
-use Rattle.lu_judge_sizes.specs.Sightings.{last_in, since_in}
+use Rattle.lu_spec_machine.specs.Machine.{Machine, object_of}
+use Rattle.lu_spec_machine.specs.Objects.{object_size}
+use Rattle.lu_spec_laws.specs.Words.Pasts.{Past, is_client}
+use Rattle.lu_spec_laws.specs.Words.Calls.{Begun, open_call, file_of}
+use Rattle.lu_spec_laws.specs.Words.Seen.{lock_with}
+use Rattle.lu_spec_laws.specs.Words.Glimpses.{begins, cuts, machine_cut, has_size, is_gone_at, locks_object, peeked}
+use Rattle.lu_judge_glimpse.specs.declared.counts.Counts.{Counts}
+use Rattle.lu_judge_glimpse.specs.declared.sightings.Sightings.{Sightings}
+use Rattle.lu_judge_glimpse.specs.Begins.{begun_place, count_in}
+use Rattle.lu_judge_glimpse.specs.Sightings.{last_in, since_in}
 use Rattle.lu_judge_glimpse.specs.declared.glimpses.Watch.{Watch}
 
 -- ---- what a line makes of what was seen

@@ -2,16 +2,16 @@
 
 ghost use Rattle.std.specs.Prelude.{◌≡◌, [], ◌∷◌, length, OnOk, IsSome};
 ghost use Rattle.lu_trace.specs.declared.entries.Line.{Line};
-ghost use Rattle.lu_laws.specs.Words.Pasts.{Past};
-ghost use Rattle.lu_laws.specs.Laws.Messages.{Follows};
-ghost use Rattle.lu_judge.specs.Places.{Ordered};
-ghost use Rattle.lu_judge_sizes.specs.Histories.{IsFormed, IsKept, ShowsHistory};
+ghost use Rattle.lu_spec_laws.specs.Words.Pasts.{Past};
+ghost use Rattle.lu_spec_laws.specs.Laws.Messages.{Follows};
+ghost use Rattle.lu_judge_pass.specs.Places.{Ordered};
+ghost use Rattle.lu_judge_glimpse.specs.Histories.{IsFormed, IsKept, ShowsHistory};
 ghost use Rattle.lu_judge_glimpse.specs.Tables.{ShowsTables};
 
+use crate::{Begins, History, Locks};
 use lu_base::Memory;
-use lu_judge::{Gone, Ledger};
 use lu_judge_calls::OpenCalls;
-use lu_judge_sizes::{Begins, History, Locks};
+use lu_judge_pass::{Gone, Ledger};
 use lu_judge_windows::Windows;
 use lu_trace::Line;
 use std::alloc::Global;

@@ -1,14 +1,14 @@
 //! Sizes that are told and must be those of objects at the end of the turn.
 
 ghost use Rattle.std.specs.Prelude.{◌≡◌, ℕ, ◌++◌, OnOk, IsSome};
-ghost use Rattle.lu_laws.specs.Words.Pasts.{Past};
-ghost use Rattle.lu_laws.specs.Words.Glimpses.{machine_cut};
-ghost use Rattle.lu_judge_sizes.specs.Sightings.{since_in};
-ghost use Rattle.lu_judge_sizes.specs.Histories.{ShowsHistory};
+ghost use Rattle.lu_spec_laws.specs.Words.Pasts.{Past};
+ghost use Rattle.lu_spec_laws.specs.Words.Glimpses.{machine_cut};
+ghost use Rattle.lu_judge_glimpse.specs.Sightings.{since_in};
+ghost use Rattle.lu_judge_glimpse.specs.Histories.{ShowsHistory};
 ghost use Rattle.lu_judge_glimpse.specs.Wanted.{wanted_of, meets, lesser, IsLeast};
 
+use crate::{History, Sightings};
 use lu_base::{Fid, Memory};
-use lu_judge_sizes::{History, Sightings};
 
 /// A size that was told, and wasn't seen before since the call began.
 #[derive(Clone, Copy, Debug)]

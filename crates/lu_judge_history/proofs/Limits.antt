@@ -15,11 +15,11 @@ use Rattle.lu_msg.specs.declared.operations.Op.TheVariants as op
 use Rattle.lu_trace.specs.declared.entries.Entry.{Entry}
 use Rattle.lu_trace.specs.declared.entries.Entry.TheVariants.{Send, Begin, Told}
 use Rattle.lu_trace.specs.WellFormed.{IsCall, IsOp, IsMessage, IsEntry}
-use Rattle.lu_laws.specs.Words.Pasts.{Past, is_client, or_else}
-use Rattle.lu_laws.specs.Words.Requests.{is_of, first_with, first_request, asked}
-use Rattle.lu_laws.specs.Words.Calls.{Begun, begun, open_call}
+use Rattle.lu_spec_laws.specs.Words.Pasts.{Past, is_client, or_else}
+use Rattle.lu_spec_laws.specs.Words.Requests.{is_of, first_with, first_request, asked}
+use Rattle.lu_spec_laws.specs.Words.Calls.{Begun, begun, open_call}
 use Rattle.lu_posix.specs.Limits.{KeepsCall, KeepsPiece}
-use Rattle.lu_judge_pieces.specs.Marks.{IsWithin}
+use Rattle.lu_judge_calls.specs.Marks.{IsWithin}
 use Rattle.lu_judge_history.specs.Deeds.{PieceWithin}
 use Rattle.lu_judge_history.specs.Limited.{Limited}
 
@@ -48,16 +48,19 @@ abbrev OfRequest : Option Request → Type 0
 OfRequest None = Unit {0}
 OfRequest (Some r) = IsOp r.op
 
-first_or : (old : Option Request) (b : Bool) (r : Request) → OfRequest old → IsOp r.op → OfRequest (or_else old (if b then Some r else None))
+first_or : (old : Option Request) (b : Bool) (r : Request) → OfRequest old → IsOp r.op
+    → OfRequest (or_else old (if b then Some r else None))
 first_or (Some s) b r old is = old
 first_or None true r old is = is
 first_or None false r old is = tt
 
-of_message : (stamp : ℕ) (old : Option Request) (t : ℕ) (who : Who) (x : ℕ) (to : Node) (m : Message) → IsMessage stamp m → OfRequest old → OfRequest (first_with old t who x to m)
+of_message : (stamp : ℕ) (old : Option Request) (t : ℕ) (who : Who) (x : ℕ) (to : Node) (m : Message) → IsMessage stamp m → OfRequest old
+    → OfRequest (first_with old t who x to m)
 of_message stamp old t who x to (message.Request r) is h = first_or old (is_of t who to r && r.xid.0 == x) r h is.3
 of_message stamp old t who x to _ is h = h
 
-first_line : (at : At) (e : Entry) (past : Past) → IsEntry at.stamp.0 e → (t : ℕ) (who : Who) (x : ℕ) → OfRequest (first_request past t who x)
+first_line : (at : At) (e : Entry) (past : Past) → IsEntry at.stamp.0 e → (t : ℕ) (who : Who) (x : ℕ)
+    → OfRequest (first_request past t who x)
     → OfRequest (first_request (record { at = at; entry = e } ∷ past) t who x)
 first_line at (Send number to m) past is t who x h = of_message at.stamp.0 (first_request past t who x) t who x to m is.2 h
 first_line at _ past is t who x h = h

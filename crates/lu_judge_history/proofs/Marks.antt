@@ -9,23 +9,25 @@ use Rattle.lu_base.specs.declared.ids.Who.{Who}
 use Rattle.lu_msg.specs.declared.calls.Call.{Call}
 use Rattle.lu_trace.specs.declared.entries.Entry.{Entry}
 use Rattle.lu_trace.specs.declared.entries.Entry.TheVariants.{Send, Told}
-use Rattle.lu_laws.specs.Words.Pasts.{Past, or_else}
-use Rattle.lu_laws.specs.Words.Lives.{is_by}
-use Rattle.lu_laws.specs.Words.Sends.{sends}
-use Rattle.lu_laws.specs.Words.Calls.{Begun, open_call, file_of}
-use Rattle.lu_laws.specs.Words.Pieces.{is_file, is_done, with_call, done_calls, is_request, done_before}
-use Rattle.lu_judge_pieces.specs.Marks.{Mark, IsWithin}
-use Rattle.lu_judge_pieces.specs.Tables.{first_sent}
+use Rattle.lu_spec_laws.specs.Words.Pasts.{Past, or_else}
+use Rattle.lu_spec_laws.specs.Words.Lives.{is_by}
+use Rattle.lu_spec_laws.specs.Words.Sends.{sends}
+use Rattle.lu_spec_laws.specs.Words.Calls.{Begun, open_call, file_of}
+use Rattle.lu_spec_laws.specs.Words.Pieces.{is_file, is_done, with_call, done_calls, is_request, done_before}
+use Rattle.lu_judge_calls.specs.Marks.{Mark, IsWithin}
+use Rattle.lu_judge_calls.specs.PieceTables.{first_sent}
 use Rattle.lu_judge_history.specs.Carried.{with_mark, marked, call_of, is_before, calls_before, HasNumber, Numbered}
 use Rattle.lu_judge_history.specs.Limited.{Limited}
 use Rattle.lu_judge_history.proofs.Limits.{OfBegun, call_within}
 
 -- ---- the marked calls are the calls that are done
 
-call_with : (fid : Fid) (n : ℕ) (begun : Option Begun) (marks : List Mark) → map call_of (with_mark fid n begun marks) ≡ with_call fid begun (map call_of marks)
+call_with : (fid : Fid) (n : ℕ) (begun : Option Begun) (marks : List Mark) → map call_of (with_mark fid n begun marks)
+    ≡ with_call fid begun (map call_of marks)
 call_with fid n None marks = refl
 call_with fid n (Some begun) marks = by (is_file fid (file_of begun)) where
-  by : (b : Bool) → map call_of (if b then (n, begun.call) ∷ marks else marks) ≡ (if b then begun.call ∷ map call_of marks else map call_of marks)
+  by : (b : Bool) → map call_of (if b then (n, begun.call) ∷ marks else marks)
+      ≡ (if b then begun.call ∷ map call_of marks else map call_of marks)
   by true = refl
   by false = refl
 
@@ -37,7 +39,8 @@ call_told fid n begun marks calls false is = is
 calls_line : (who : Who) (fid : Fid) (at : At) (e : Entry) (past : Past) → map call_of (marked who fid past) ≡ done_calls who fid past
     → map call_of (marked who fid (record { at = at; entry = e } ∷ past)) ≡ done_calls who fid (record { at = at; entry = e } ∷ past)
 calls_line who fid at (Told slot turn answer) past is =
-    call_told fid (sends past) (open_call who.client slot past) (marked who fid past) (done_calls who fid past) (is_by who past at.node && is_done answer) is
+    call_told fid (sends past) (open_call who.client slot past) (marked who fid past) (done_calls who fid past)
+    (is_by who past at.node && is_done answer) is
 calls_line who fid at _ past is = is
 
 pub calls_are : (who : Who) (fid : Fid) (past : Past) → map call_of (marked who fid past) ≡ done_calls who fid past
@@ -57,7 +60,8 @@ up_with fid n (Some begun) marks up = by (is_file fid (file_of begun)) where
   by true = (omega arith, up)
   by false = up
 
-up_told : (fid : Fid) (n : ℕ) (begun : Option Begun) (marks : List Mark) (b : Bool) → AreUpTo n marks → AreUpTo n (if b then with_mark fid n begun marks else marks)
+up_told : (fid : Fid) (n : ℕ) (begun : Option Begun) (marks : List Mark) (b : Bool) → AreUpTo n marks
+    → AreUpTo n (if b then with_mark fid n begun marks else marks)
 up_told fid n begun marks true up = up_with fid n begun marks up
 up_told fid n begun marks false up = up
 
@@ -82,14 +86,17 @@ abbrev IsUpTo : ℕ → Option ℕ → Type 0
 IsUpTo n None = Unit {0}
 IsUpTo n (Some s) = s ≤ n
 
-first_or : (n number : ℕ) (old : Option ℕ) (b : Bool) → number ≡ suc n → IsUpTo n old → IsUpTo (suc n) (or_else old (if b then Some number else None))
+first_or : (n number : ℕ) (old : Option ℕ) (b : Bool) → number ≡ suc n → IsUpTo n old
+    → IsUpTo (suc n) (or_else old (if b then Some number else None))
 first_or n number (Some s) b is up = omega arith
 first_or n number None true is up = omega arith
 first_or n number None false is up = tt
 
-first_line : (t : ℕ) (who : Who) (x : ℕ) (at : At) (e : Entry) (past : Past) → HasNumber past (record { at = at; entry = e }) → IsUpTo (sends past) (first_sent t who x past)
+first_line : (t : ℕ) (who : Who) (x : ℕ) (at : At) (e : Entry) (past : Past) → HasNumber past (record { at = at; entry = e })
+    → IsUpTo (sends past) (first_sent t who x past)
     → IsUpTo (sends (record { at = at; entry = e } ∷ past)) (first_sent t who x (record { at = at; entry = e } ∷ past))
-first_line t who x at (Send number to message) past is up = first_or (sends past) number (first_sent t who x past) (is_request t who x to message) is up
+first_line t who x at (Send number to message) past is up = first_or (sends past) number (first_sent t who x past)
+    (is_request t who x to message) is up
 first_line t who x at _ past is up = up
 
 first_up_to : (t : ℕ) (who : Who) (x : ℕ) (past : Past) → Numbered past → IsUpTo (sends past) (first_sent t who x past)
@@ -112,7 +119,8 @@ before_all n limit (m ∷ marks) up is =
 
 before_new : (n limit : ℕ) (call : Call) (marks : List Mark) → limit ≤ n → calls_before limit ((n, call) ∷ marks) ≡ calls_before limit marks
 before_new n limit call marks up =
-    ap (λ (b : Bool). map call_of (cond b ((n, call) ∷ filter (is_before limit) marks) (filter (is_before limit) marks))) (not_below n limit up)
+    ap (λ (b : Bool). map call_of (cond b ((n, call) ∷ filter (is_before limit) marks) (filter (is_before limit) marks)))
+    (not_below n limit up)
 
 abbrev before_first : Option ℕ → List Mark → Option (List Call)
 before_first first marks = option_map (λ limit. calls_before limit marks) first
@@ -123,11 +131,13 @@ sent_first marks calls number (Some s) b is = refl
 sent_first marks calls number None true is = ap (λ (cs : List Call). Some cs) (sym is)
 sent_first marks calls number None false is = refl
 
-told_new : (n : ℕ) (call : Call) (marks : List Mark) (first : Option ℕ) → IsUpTo n first → before_first first marks ≡ before_first first ((n, call) ∷ marks)
+told_new : (n : ℕ) (call : Call) (marks : List Mark) (first : Option ℕ) → IsUpTo n first → before_first first marks
+    ≡ before_first first ((n, call) ∷ marks)
 told_new n call marks None up = refl
 told_new n call marks (Some s) up = ap (λ (cs : List Call). Some cs) (sym (before_new n s call marks up))
 
-told_with : (fid : Fid) (n : ℕ) (begun : Option Begun) (marks : List Mark) (first : Option ℕ) → IsUpTo n first → before_first first marks ≡ before_first first (with_mark fid n begun marks)
+told_with : (fid : Fid) (n : ℕ) (begun : Option Begun) (marks : List Mark) (first : Option ℕ) → IsUpTo n first → before_first first marks
+    ≡ before_first first (with_mark fid n begun marks)
 told_with fid n None marks first up = refl
 told_with fid n (Some begun) marks first up = by (is_file fid (file_of begun)) where
   by : (b : Bool) → before_first first marks ≡ before_first first (if b then (n, begun.call) ∷ marks else marks)
@@ -139,17 +149,20 @@ told_first : (fid : Fid) (n : ℕ) (begun : Option Begun) (marks : List Mark) (f
 told_first fid n begun marks first true up = told_with fid n begun marks first up
 told_first fid n begun marks first false up = refl
 
-before_line : (t : ℕ) (who : Who) (x : ℕ) (fid : Fid) (at : At) (e : Entry) (past : Past) → HasNumber past (record { at = at; entry = e }) → Numbered past
+before_line : (t : ℕ) (who : Who) (x : ℕ) (fid : Fid) (at : At) (e : Entry) (past : Past) → HasNumber past (record { at = at; entry = e })
+    → Numbered past
     → done_before t who x fid past ≡ before_first (first_sent t who x past) (marked who fid past)
     → done_before t who x fid (record { at = at; entry = e } ∷ past)
     ≡ before_first (first_sent t who x (record { at = at; entry = e } ∷ past)) (marked who fid (record { at = at; entry = e } ∷ past))
 before_line t who x fid at (Send number to message) past has numbered is =
     ap (λ (old : Option (List Call)). or_else old (if is_request t who x to message then Some (done_calls who fid past) else None)) is
     ∙ sent_first (marked who fid past) (done_calls who fid past) number (first_sent t who x past) (is_request t who x to message)
-    (ap (λ (ms : List Mark). map call_of ms) (before_all (sends past) number (marked who fid past) (up_to who fid past) has) ∙ calls_are who fid past)
+    (ap (λ (ms : List Mark). map call_of ms) (before_all (sends past) number (marked who fid past) (up_to who fid past) has)
+    ∙ calls_are who fid past)
 before_line t who x fid at (Told slot turn answer) past has numbered is =
     is
-    ∙ told_first fid (sends past) (open_call who.client slot past) (marked who fid past) (first_sent t who x past) (is_by who past at.node && is_done answer)
+    ∙ told_first fid (sends past) (open_call who.client slot past) (marked who fid past) (first_sent t who x past)
+    (is_by who past at.node && is_done answer)
     (first_up_to t who x past numbered)
 before_line t who x fid at _ past has numbered is = is
 
@@ -165,20 +178,24 @@ abbrev pub AreWithin : List Mark → Type 0
 AreWithin [] = Unit {0}
 AreWithin (m ∷ marks) = IsWithin m.1 × AreWithin marks
 
-within_with : (fid : Fid) (n : ℕ) (begun : Option Begun) (marks : List Mark) → OfBegun begun → AreWithin marks → AreWithin (with_mark fid n begun marks)
+within_with : (fid : Fid) (n : ℕ) (begun : Option Begun) (marks : List Mark) → OfBegun begun → AreWithin marks
+    → AreWithin (with_mark fid n begun marks)
 within_with fid n None marks is within = within
 within_with fid n (Some begun) marks is within = by (is_file fid (file_of begun)) where
   by : (b : Bool) → AreWithin (if b then (n, begun.call) ∷ marks else marks)
   by true = (is, within)
   by false = within
 
-within_told : (fid : Fid) (n : ℕ) (begun : Option Begun) (marks : List Mark) (b : Bool) → OfBegun begun → AreWithin marks → AreWithin (if b then with_mark fid n begun marks else marks)
+within_told : (fid : Fid) (n : ℕ) (begun : Option Begun) (marks : List Mark) (b : Bool) → OfBegun begun → AreWithin marks
+    → AreWithin (if b then with_mark fid n begun marks else marks)
 within_told fid n begun marks true is within = within_with fid n begun marks is within
 within_told fid n begun marks false is within = within
 
-within_line : (who : Who) (fid : Fid) (at : At) (e : Entry) (past : Past) → Limited past → AreWithin (marked who fid past) → AreWithin (marked who fid (record { at = at; entry = e } ∷ past))
+within_line : (who : Who) (fid : Fid) (at : At) (e : Entry) (past : Past) → Limited past → AreWithin (marked who fid past)
+    → AreWithin (marked who fid (record { at = at; entry = e } ∷ past))
 within_line who fid at (Told slot turn answer) past limited within =
-    within_told fid (sends past) (open_call who.client slot past) (marked who fid past) (is_by who past at.node && is_done answer) (call_within past limited who.client slot) within
+    within_told fid (sends past) (open_call who.client slot past) (marked who fid past) (is_by who past at.node && is_done answer)
+    (call_within past limited who.client slot) within
 within_line who fid at _ past limited within = within
 
 pub marks_within : (who : Who) (fid : Fid) (past : Past) → Limited past → AreWithin (marked who fid past)

@@ -1,5 +1,6 @@
 -- What the tables find among the calls that are done is what the laws ask of all of them.
-use Rattle.std.proofs.Common.{◌≡◌, ℕ, ◌+◌, ◌-◌, ◌/◌, ◌^◌, ◌≤◌, ◌<◌, Bool, true, false, cond, List, [], ◌∷◌, length, map, refl, sym, ap, ◌∙◌, ⊎_elim, arith}
+use Rattle.std.proofs.Common.{◌≡◌, ℕ, ◌+◌, ◌-◌, ◌/◌, ◌^◌, ◌≤◌, ◌<◌, Bool, true, false, cond, List, [], ◌∷◌, length, map, refl, sym, ap, ◌∙◌}
+use Rattle.std.proofs.Common.{⊎_elim, arith}
 use Rattle.std.specs.Prelude.{nat_lt, nat_le, ◌==◌, ◌&&◌, ◌||◌, filter, reverse, slice_get}
 use Rattle.std.specs.List.{list_any}
 use Rattle.std.proofs.lemmas.Bool.{cases_lt}
@@ -11,12 +12,12 @@ use Rattle.std.proofs.Math.Nat.{div-mul-le_self}
 use Rattle.lu_layout.specs.Raid0.{Raid0, position_of, below_of}
 use Rattle.lu_msg.specs.declared.calls.Call.{Call}
 use Rattle.lu_msg.specs.declared.calls.Call.TheVariants as call
-use Rattle.lu_laws.specs.Words.Pieces.{is_byte, wrote, cuts_to, has_origin, have_origin}
-use Rattle.lu_laws.proofs.Tests.{both}
-use Rattle.lu_judge_pieces.specs.declared.origins.Carrier.{Carrier}
-use Rattle.lu_judge_pieces.specs.declared.origins.Done.{Done}
-use Rattle.lu_judge_pieces.specs.Marks.{Mark, IsWithin, touches, is_cut, cuts_within, has_mark}
-use Rattle.lu_judge_pieces.specs.Tables.{page_in, cuts_in, has_cut, has_write, has_source, have_sources}
+use Rattle.lu_spec_laws.specs.Words.Pieces.{is_byte, wrote, cuts_to, has_origin, have_origin}
+use Rattle.lu_spec_laws.proofs.Tests.{both}
+use Rattle.lu_judge_calls.specs.declared.origins.Carrier.{Carrier}
+use Rattle.lu_judge_calls.specs.declared.origins.Done.{Done}
+use Rattle.lu_judge_calls.specs.Marks.{Mark, IsWithin, touches, is_cut, cuts_within, has_mark}
+use Rattle.lu_judge_calls.specs.PieceTables.{page_in, cuts_in, has_cut, has_write, has_source, have_sources}
 use Rattle.lu_judge_history.specs.Carried.{call_of, is_before, calls_before, touches_page, is_cut_mark}
 use Rattle.lu_judge_history.proofs.Marks.{AreWithin}
 
@@ -38,7 +39,8 @@ module _ (keep asks test : Call → Bool) (limit : ℕ) where
   any_kept : (marks : List Mark) → AllAgree marks → list_any (has_mark limit asks) (kept marks) ≡ list_any test (calls_before limit marks)
   any_kept [] agree = refl
   any_kept (m ∷ marks) agree = by (keep m.1) (nat_lt m.0 limit) refl refl (any_kept marks agree.1) where
-    by : (k b : Bool) → keep m.1 ≡ k → nat_lt m.0 limit ≡ b → list_any (has_mark limit asks) (kept marks) ≡ list_any test (calls_before limit marks)
+    by : (k b : Bool) → keep m.1 ≡ k → nat_lt m.0 limit ≡ b → list_any (has_mark limit asks) (kept marks)
+        ≡ list_any test (calls_before limit marks)
         → list_any (has_mark limit asks) (cond k (m ∷ kept marks) (kept marks))
         ≡ list_any test (map call_of (cond b (m ∷ filter (is_before limit) marks) (filter (is_before limit) marks)))
     by true true e g ih =
@@ -60,14 +62,17 @@ le_is m n less = grind (arith, nat_tests)
 no_byte : (byte : ℕ) (bytes : List ℕ) (i : ℕ) → length bytes ≤ i → is_byte byte (slice_get bytes i) ≡ false
 no_byte byte bytes i past = ap (is_byte byte) (slice_get_past bytes i past)
 
-untouched : (p byte offset : ℕ) (bytes : List ℕ) → (nat_le (offset / 4096) (p / 4096) && nat_le (p / 4096) ((offset + length bytes) / 4096)) ≡ false
+untouched : (p byte offset : ℕ) (bytes : List ℕ) → (nat_le (offset / 4096) (p / 4096) && nat_le (p / 4096) ((offset + length bytes) / 4096))
+    ≡ false
     → (nat_le offset p && is_byte byte (slice_get bytes (p - offset))) ≡ false
 untouched p byte offset bytes other =
     ⊎_elim (λ under. ap (λ (b : Bool). b && is_byte byte (slice_get bytes (p - offset))) (over p offset under))
     (λ from.
     ⊎_elim (λ within.
-    absurd (clash_of _ (both (le_is _ _ (div_mono offset p 4096 (omega arith) from)) (le_is _ _ (div_mono p (offset + length bytes) 4096 (omega arith) (omega arith)))) other))
-    (λ past. ap (λ (b : Bool). nat_le offset p && b) (no_byte byte bytes (p - offset) past) ∙ and_false (nat_le offset p)) (cases_lt (p - offset) (length bytes)))
+    absurd (clash_of _ (both (le_is _ _ (div_mono offset p 4096 (omega arith) from))
+    (le_is _ _ (div_mono p (offset + length bytes) 4096 (omega arith) (omega arith)))) other))
+    (λ past. ap (λ (b : Bool). nat_le offset p && b) (no_byte byte bytes (p - offset) past) ∙ and_false (nat_le offset p))
+    (cases_lt (p - offset) (length bytes)))
     (cases_lt p offset)
   where
     over : (m n : ℕ) → m < n → nat_le n m ≡ false
@@ -91,16 +96,21 @@ writes_agree p byte limit (m ∷ marks) = (write_agrees p byte m.1, writes_agree
 
 -- ---- cuts
 
-cut_agrees : (layout : Raid0) (stripe below : ℕ) (c : Call) → IsWithin c → Agree is_cut (cuts_within layout stripe below) (cuts_to layout stripe below) c
+cut_agrees : (layout : Raid0) (stripe below : ℕ) (c : Call) → IsWithin c
+    → Agree is_cut (cuts_within layout stripe below) (cuts_to layout stripe below) c
 cut_agrees layout stripe below (call.Cut handle size) within = (
   λ e. ap (λ (b : Bool). b && below_of layout stripe size == below) (le_is size (2 ^ 40) within),
   λ e. absurd (cc),
 )
 cut_agrees layout stripe below _ within = (λ e. refl, λ e. refl)
 
-cuts_agree : (layout : Raid0) (stripe below limit : ℕ) (marks : List Mark) → AreWithin marks → AllAgree is_cut (cuts_within layout stripe below) (cuts_to layout stripe below) limit marks
+cuts_agree : (layout : Raid0) (stripe below limit : ℕ) (marks : List Mark) → AreWithin marks
+    → AllAgree is_cut (cuts_within layout stripe below) (cuts_to layout stripe below) limit marks
 cuts_agree layout stripe below limit [] within = tt
-cuts_agree layout stripe below limit (m ∷ marks) within = (cut_agrees layout stripe below m.1 within.0, cuts_agree layout stripe below limit marks within.1)
+cuts_agree layout stripe below limit (m ∷ marks) within = (
+  cut_agrees layout stripe below m.1 within.0,
+  cuts_agree layout stripe below limit marks within.1,
+)
 
 -- ---- what is carried
 
@@ -122,12 +132,14 @@ module _
   cut_is below =
       ap (λ (ms : List Mark). list_any (has_mark of.limit (cuts_within of.layout.now of.stripe below)) ms) cuts
       ∙ any_reverse (has_mark of.limit (cuts_within of.layout.now of.stripe below)) (filter is_cut_mark marks)
-      ∙ any_kept is_cut (cuts_within of.layout.now of.stripe below) (cuts_to of.layout.now of.stripe below) of.limit marks (cuts_agree of.layout.now of.stripe below of.limit marks within)
+      ∙ any_kept is_cut (cuts_within of.layout.now of.stripe below) (cuts_to of.layout.now of.stripe below) of.limit marks
+      (cuts_agree of.layout.now of.stripe below of.limit marks within)
 
   source_is : (offset byte : ℕ) → has_source d of offset byte ≡ has_origin of.layout.now of.stripe calls offset byte
   source_is offset byte =
       ap (λ (b : Bool). b || (byte == 0 && has_cut d of (offset + 1))) (write_is (position_of of.layout.now of.stripe offset) byte)
-      ∙ ap (λ (b : Bool). list_any (wrote (position_of of.layout.now of.stripe offset) byte) calls || (byte == 0 && b)) (cut_is (offset + 1))
+      ∙ ap (λ (b : Bool). list_any (wrote (position_of of.layout.now of.stripe offset) byte) calls || (byte == 0 && b))
+      (cut_is (offset + 1))
 
   pub sources_are : (offset : ℕ) (bytes : List ℕ) → have_sources d of offset bytes ≡ have_origin of.layout.now of.stripe calls offset bytes
   sources_are offset [] = refl

@@ -5,17 +5,17 @@ use Rattle.lu_base.specs.declared.ids.Who.{Who}
 use Rattle.lu_msg.specs.declared.calls.Call.{Call}
 use Rattle.lu_trace.specs.declared.entries.Entry.TheVariants.{Send, Told}
 use Rattle.lu_trace.specs.declared.entries.Line.{Line}
-use Rattle.lu_laws.specs.Words.Pasts.{Past}
-use Rattle.lu_laws.specs.Words.Lives.{is_by}
-use Rattle.lu_laws.specs.Words.Sends.{sends}
-use Rattle.lu_laws.specs.Words.Calls.{Begun, open_call, file_of}
-use Rattle.lu_laws.specs.Words.Pieces.{is_file, is_done, layout_heard}
-use Rattle.lu_judge_pieces.specs.Marks.{Mark, touches, is_cut}
+use Rattle.lu_spec_laws.specs.Words.Pasts.{Past}
+use Rattle.lu_spec_laws.specs.Words.Lives.{is_by}
+use Rattle.lu_spec_laws.specs.Words.Sends.{sends}
+use Rattle.lu_spec_laws.specs.Words.Calls.{Begun, open_call, file_of}
+use Rattle.lu_spec_laws.specs.Words.Pieces.{is_file, is_done, layout_heard}
+use Rattle.lu_judge_calls.specs.Marks.{Mark, touches, is_cut}
 use Rattle.lu_msg.specs.declared.operations.Op.{Op}
 use Rattle.lu_msg.specs.declared.operations.Op.TheVariants as op
-use Rattle.lu_judge_pieces.specs.declared.origins.Done.{Done}
-use Rattle.lu_judge_pieces.specs.declared.origins.Carrier.{Carrier}
-use Rattle.lu_judge_pieces.specs.Tables.{page_in, cuts_in, layout_in, has_cut, have_sources, ShowsSent}
+use Rattle.lu_judge_calls.specs.declared.origins.Done.{Done}
+use Rattle.lu_judge_calls.specs.declared.origins.Carrier.{Carrier}
+use Rattle.lu_judge_calls.specs.PieceTables.{page_in, cuts_in, layout_in, has_cut, have_sources, ShowsSent}
 use Rattle.lu_judge_history.specs.declared.carried.Carried.{Carried}
 
 -- ---- done calls with their marks
@@ -67,7 +67,8 @@ is_cut_mark m = is_cut m.1
 pub record ShowsCarried (t : Carried) (past : Past) : Type 0 where
   pub last : t.last ≡ sends past
   pub numbered : Numbered past
-  pub writes : (who : Who) (fid : Fid) (page : ℕ) → page_in t.done.writes who fid page ≡ reverse (filter (touches_page page) (marked who fid past))
+  pub writes : (who : Who) (fid : Fid) (page : ℕ) → page_in t.done.writes who fid page
+      ≡ reverse (filter (touches_page page) (marked who fid past))
   pub cuts : (who : Who) (fid : Fid) → cuts_in t.done.cuts who fid ≡ reverse (filter is_cut_mark (marked who fid past))
   pub sent : ShowsSent t.sent past
   pub layouts : (who : Who) (fid : Fid) → layout_in t.layouts who fid ≡ layout_heard who fid past

@@ -2,12 +2,12 @@
 use Rattle.std.specs.Prelude.{Option, Some, None}
 use Rattle.lu_base.specs.declared.ids.Who.{Who}
 use Rattle.lu_msg.specs.declared.operations.Op.{Op}
-use Rattle.lu_machine.specs.declared.acts.Act.{Act}
-use Rattle.lu_machine.specs.declared.acts.Deed.{Deed}
-use Rattle.lu_machine.specs.declared.acts.Deed.TheVariants as deed
-use Rattle.lu_laws.specs.Words.Histories.{none}
+use Rattle.lu_spec_machine.specs.declared.acts.Act.{Act}
+use Rattle.lu_spec_machine.specs.declared.acts.Deed.{Deed}
+use Rattle.lu_spec_machine.specs.declared.acts.Deed.TheVariants as deed
+use Rattle.lu_spec_laws.specs.Words.Histories.{none}
 use Rattle.lu_posix.specs.Limits.{KeepsPiece}
-use Rattle.lu_judge_pieces.specs.Marks.{IsWithin}
+use Rattle.lu_judge_calls.specs.Marks.{IsWithin}
 use Rattle.lu_judge_history.specs.declared.asked.Asked.{Asked}
 use Rattle.lu_judge_history.specs.declared.asked.Asked.TheVariants.{Names, Data}
 

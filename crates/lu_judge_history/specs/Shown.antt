@@ -4,14 +4,14 @@ use Rattle.lu_base.specs.declared.ids.At.{At}
 use Rattle.lu_base.specs.declared.ids.Who.{Who}
 use Rattle.lu_trace.specs.declared.entries.Line.{Line}
 use Rattle.lu_trace.specs.WellFormed.{IsLine}
-use Rattle.lu_laws.specs.Words.Pasts.{Past}
-use Rattle.lu_laws.specs.Words.Lives.{is_gone}
-use Rattle.lu_laws.specs.Words.Lost.{is_lost}
-use Rattle.lu_laws.specs.Words.Histories.{machine_of, answer_there}
+use Rattle.lu_spec_laws.specs.Words.Pasts.{Past}
+use Rattle.lu_spec_laws.specs.Words.Lives.{is_gone}
+use Rattle.lu_spec_laws.specs.Words.Lost.{is_lost}
+use Rattle.lu_spec_laws.specs.Words.Histories.{machine_of, answer_there}
 use Rattle.lu_posix.specs.Shown.{Shows}
-use Rattle.lu_judge.specs.Firsts.{About}
-use Rattle.lu_judge.specs.Places.{Placed}
-use Rattle.lu_judge.specs.Ledgers.{ShowsLedger, ShowsGone}
+use Rattle.lu_judge_pass.specs.Firsts.{About}
+use Rattle.lu_judge_pass.specs.Places.{Placed}
+use Rattle.lu_judge_pass.specs.Ledgers.{ShowsLedger, ShowsGone}
 use Rattle.lu_judge_calls.specs.Tables.{ShowsOpenCalls}
 use Rattle.lu_judge_windows.specs.Lost.{ShowsLost}
 use Rattle.lu_judge_history.specs.declared.played.Played.{Played}

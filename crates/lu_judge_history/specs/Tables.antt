@@ -5,7 +5,7 @@ use Rattle.lu_base.specs.declared.ids.At.{At}
 use Rattle.lu_base.specs.declared.ids.Stamp.{Stamp}
 use Rattle.lu_base.specs.declared.ids.Who.{Who}
 use Rattle.lu_msg.specs.declared.answers.Answer.{Answer}
-use Rattle.lu_laws.specs.Words.Pasts.{is_target}
+use Rattle.lu_spec_laws.specs.Words.Pasts.{is_target}
 use Rattle.lu_judge_history.specs.declared.answers.Answers.{Answers}
 
 abbrev pub answer_in : Answers → At → Who → ℕ → Option Answer

@@ -3,10 +3,10 @@
 ghost use Rattle.std.specs.Prelude.{◌≡◌, IfOk};
 ghost use Rattle.std.specs.Option.{option_map};
 ghost use Rattle.lu_judge_calls.specs.Tables.{begun_of};
-ghost use Rattle.lu_machine.specs.declared.acts.Deed.TheVariants as deed;
-ghost use Rattle.lu_laws.specs.Words.Calls.{operation, file_of};
-ghost use Rattle.lu_laws.specs.Words.Histories.{deed_on, data_deed};
-ghost use Rattle.lu_judge_pieces.specs.Marks.{IsWithin};
+ghost use Rattle.lu_spec_machine.specs.declared.acts.Deed.TheVariants as deed;
+ghost use Rattle.lu_spec_laws.specs.Words.Calls.{operation, file_of};
+ghost use Rattle.lu_spec_laws.specs.Words.Histories.{deed_on, data_deed};
+ghost use Rattle.lu_judge_calls.specs.Marks.{IsWithin};
 ghost use Rattle.lu_judge_history.specs.Deeds.{deed_asked, AreWithin};
 
 use lu_base::{Fid, Memory};

@@ -7,21 +7,18 @@ ghost use Rattle.std.specs.Prelude.{◌≡◌, ℕ, IsTrue, ◌↔◌, IfOk, OnO
 ghost use Rattle.std.specs.Option.{option_map};
 ghost use Rattle.lu_base.specs.declared.ids.Txn.{Txn as SpecTxn};
 ghost use Rattle.lu_base.specs.declared.ids.Who.{Who as SpecWho};
-ghost use Rattle.lu_machine.specs.Machine.{Machine as Plain, answer, next};
-ghost use Rattle.lu_laws.specs.Words.Histories.{none, names_act, piece_act, after_item, request_answer};
+ghost use Rattle.lu_spec_machine.specs.Machine.{Machine as Plain, answer, next};
+ghost use Rattle.lu_spec_laws.specs.Words.Histories.{none, names_act, piece_act, after_item, request_answer};
 ghost use Rattle.lu_posix.specs.Limits.{KeepsPiece};
 ghost use Rattle.lu_posix.specs.Shown.{Shows};
 ghost use Rattle.lu_judge_history.specs.Deeds.{deed_asked, IsAskedWithin, PieceWithin, act_asked};
 
 use super::asked::Asked;
-use lu_base::{Memory, Txn, Who};
-use lu_judge_pieces::is_within;
+use lu_base::{MOST_POSITION, Memory, Txn, Who};
+use lu_judge_calls::is_within;
 use lu_msg::{Answer, Errno, Op};
 use lu_posix::Machine;
 use std::alloc::Global;
-
-/// The greatest end of a piece of an object: 2^40 bytes.
-const MOST_BYTES: u64 = 1 << 40;
 
 /// Whether what the operation puts or cuts ends at or below 2^40, as in each well formed trace.
 pub(crate) fn is_piece_within(op: &Op) -> bool
@@ -29,9 +26,9 @@ pub(crate) fn is_piece_within(op: &Op) -> bool
 {
     match op {
         Op::Put { offset, bytes, .. } => {
-            *offset <= MOST_BYTES && bytes.len() as u64 <= MOST_BYTES - *offset
+            *offset <= MOST_POSITION && bytes.len() as u64 <= MOST_POSITION - *offset
         }
-        Op::Cut { size, .. } => *size <= MOST_BYTES,
+        Op::Cut { size, .. } => *size <= MOST_POSITION,
         _ => true,
     }
 }

@@ -1,5 +1,6 @@
 -- What the messages that a target took ask for.
-use Rattle.std.proofs.Common.{◌≡◌, ℕ, ◌+◌, ◌<◌, Bool, Option, Some, None, List, [], ◌∷◌, ◌++◌, length, take, drop, get_or, refl, ap, sym, ◌∙◌, add-one}
+use Rattle.std.proofs.Common.{◌≡◌, ℕ, ◌+◌, ◌<◌, Bool, Option, Some, None, List, [], ◌∷◌, ◌++◌, length, take, drop, get_or, refl, ap, sym}
+use Rattle.std.proofs.Common.{◌∙◌, add-one}
 use Rattle.std.specs.Prelude.{find, map, reverse}
 use Rattle.std.specs.Option.{option_to_list}
 use Rattle.std.proofs.lemmas.List.{reverse-append, map-append, append_assoc, take-append-drop}
@@ -11,10 +12,10 @@ use Rattle.lu_msg.specs.declared.messages.Message.{Message}
 use Rattle.lu_msg.specs.declared.messages.Message.TheVariants.{Request}
 use Rattle.lu_msg.specs.declared.operations.Op.{Op}
 use Rattle.lu_msg.specs.declared.operations.Op.TheVariants as op
-use Rattle.lu_laws.specs.Words.Pasts.{Past, or_else}
-use Rattle.lu_laws.specs.Words.Sends.{Sending}
-use Rattle.lu_laws.specs.Words.Requests.{asked}
-use Rattle.lu_laws.specs.Words.Asked.{enqueued, enqueued_in, enqueued_by}
+use Rattle.lu_spec_laws.specs.Words.Pasts.{Past, or_else}
+use Rattle.lu_spec_laws.specs.Words.Sends.{Sending}
+use Rattle.lu_spec_laws.specs.Words.Requests.{asked}
+use Rattle.lu_spec_laws.specs.Words.Asked.{enqueued, enqueued_in, enqueued_by}
 use Rattle.lu_judge_locks.specs.Asked.{enqueued_lock, enqueued_of, enqueued_with}
 use Rattle.lu_judge_locks.proofs.Finds.{find_append}
 
@@ -37,9 +38,12 @@ module _ (t : ℕ) (past : Past) (requested : Who → ℕ → Option Op) (is : (
 -- ---- message by message, the last one first
 
 module _ (requested : Who → ℕ → Option Op) (cookie : Cookie) where
-  joined : (xs ys : List Sending) → enqueued_with requested cookie (xs ++ ys) ≡ enqueued_with requested cookie xs ++ enqueued_with requested cookie ys
+  joined : (xs ys : List Sending) → enqueued_with requested cookie (xs ++ ys) ≡ enqueued_with requested cookie xs
+      ++ enqueued_with requested cookie ys
   joined [] ys = refl
-  joined (s ∷ xs) ys = ap (λ rest. option_to_list (enqueued_of requested cookie s.message) ++ rest) (joined xs ys) ∙ sym (append_assoc (option_to_list (enqueued_of requested cookie s.message)) (enqueued_with requested cookie xs) (enqueued_with requested cookie ys))
+  joined (s ∷ xs) ys = ap (λ rest. option_to_list (enqueued_of requested cookie s.message) ++ rest) (joined xs ys)
+      ∙ sym (append_assoc (option_to_list (enqueued_of requested cookie s.message)) (enqueued_with requested cookie xs)
+      (enqueued_with requested cookie ys))
 
   module _ {X : Type 0} (f : X → Sending) (p : Lock → Bool) where
     abbrev pub found_in : List X → Option Lock
@@ -62,11 +66,14 @@ module _ (requested : Who → ℕ → Option Op) (cookie : Cookie) where
       by (Some lock) = refl
 
     -- one more before those that ask for nothing that fits
-    pub found_next : (xs : List X) (i : ℕ) (d : X) → i < length xs → found_in (drop (i + 1) xs) ≡ None → found_in (drop i xs) ≡ found_of (get_or xs i d)
+    pub found_next : (xs : List X) (i : ℕ) (d : X) → i < length xs → found_in (drop (i + 1) xs) ≡ None → found_in (drop i xs)
+        ≡ found_of (get_or xs i d)
     found_next xs i d within none =
         ap found_in (drop-cons xs i d within ∙ ap (λ n. get_or xs i d ∷ drop n xs) (sym (add-one i)))
-        ∙ found_last (get_or xs i d ∷ []) (drop (i + 1) xs) ∙ ap (λ o. or_else o (found_in (get_or xs i d ∷ []))) none ∙ one_found (get_or xs i d)
+        ∙ found_last (get_or xs i d ∷ []) (drop (i + 1) xs) ∙ ap (λ o. or_else o (found_in (get_or xs i d ∷ []))) none
+        ∙ one_found (get_or xs i d)
 
     -- what fits among the last ones is what fits
     pub found_whole : (xs : List X) (i : ℕ) (lock : Lock) → found_in (drop i xs) ≡ Some lock → found_in xs ≡ Some lock
-    found_whole xs i lock found = ap found_in (sym (take-append-drop i xs)) ∙ found_last (take i xs) (drop i xs) ∙ ap (λ o. or_else o (found_in (take i xs))) found
+    found_whole xs i lock found = ap found_in (sym (take-append-drop i xs)) ∙ found_last (take i xs) (drop i xs)
+        ∙ ap (λ o. or_else o (found_in (take i xs))) found

@@ -1,5 +1,6 @@
 -- The first of a list that passes a test.
-use Rattle.std.proofs.Common.{◌≡◌, ℕ, zero, suc, ◌+◌, ◌<◌, Bool, true, false, cond, Option, Some, None, List, [], ◌∷◌, drop, refl, ap, sym, subst, ◌∙◌, add-one}
+use Rattle.std.proofs.Common.{◌≡◌, ℕ, zero, suc, ◌+◌, ◌<◌, Bool, true, false, cond, Option, Some, None, List, [], ◌∷◌, drop, refl, ap, sym}
+use Rattle.std.proofs.Common.{subst, ◌∙◌, add-one}
 use Rattle.std.specs.Prelude.{filter, find, map, slice_get, IfSome}
 use Rattle.std.specs.Option.{option_map}
 use Rattle.lu_judge_locks.specs.Lists.{Arrival, AreBefore}
@@ -16,7 +17,8 @@ find_head {X = X} p (x ∷ xs) = by (p x) (find_head p xs) where
   by false rest = rest
 
 -- at a place whose element passes the list of those that pass begins with it; past the end it is empty
-pub head_at : {X Y : Type 0} (f : X → Y) (p : X → Bool) (xs : List X) (at : ℕ) → IfSome (slice_get xs at) (λ x. p x ≡ true) → option_map f (slice_get xs at) ≡ head (map f (filter p (drop at xs)))
+pub head_at : {X Y : Type 0} (f : X → Y) (p : X → Bool) (xs : List X) (at : ℕ) → IfSome (slice_get xs at) (λ x. p x ≡ true)
+    → option_map f (slice_get xs at) ≡ head (map f (filter p (drop at xs)))
 head_at f p [] zero passes = refl
 head_at f p [] (suc at) passes = refl
 head_at f p (x ∷ xs) zero passes = rw passes refl
@@ -40,7 +42,8 @@ before_drop place zero all early = early
 before_drop place (suc n) [] early = early
 before_drop place (suc n) (a ∷ all) early = before_drop place n all early.1
 
-pub before_get : {X : Type 0} (f : X → Arrival) (place : ℕ) (xs : List X) (at : ℕ) (x : X) → AreBefore place (map f xs) → slice_get xs at ≡ Some x → (f x).place < place
+pub before_get : {X : Type 0} (f : X → Arrival) (place : ℕ) (xs : List X) (at : ℕ) (x : X) → AreBefore place (map f xs) → slice_get xs at
+    ≡ Some x → (f x).place < place
 before_get f place [] at x early is = absurd (cc)
 before_get {X = X} f place (y ∷ xs) zero x early is = let same : y ≡ x = cc in subst (λ (z : X). (f z).place < place) same early.0
 before_get f place (y ∷ xs) (suc at) x early is = before_get f place xs at x early.1 is

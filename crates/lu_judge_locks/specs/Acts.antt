@@ -5,8 +5,8 @@ use Rattle.std.specs.HashMap.{get_by}
 use Rattle.lu_base.specs.declared.ids.At.{At}
 use Rattle.lu_base.specs.declared.ids.Node.TheVariants.{Target}
 use Rattle.lu_base.specs.declared.ids.Who.{Who}
-use Rattle.lu_laws.specs.Words.Pasts.{Past, same_turn}
-use Rattle.lu_laws.specs.Words.Asked.{Acting, acting}
+use Rattle.lu_spec_laws.specs.Words.Pasts.{Past, same_turn}
+use Rattle.lu_spec_laws.specs.Words.Asked.{Acting, acting}
 use Rattle.lu_judge_locks.specs.declared.acts.Acting.{Acting as Kept}
 use Rattle.lu_judge_locks.specs.declared.acts.Acts.{Acts}
 

@@ -4,9 +4,9 @@ use Rattle.std.specs.Prelude.{ℕ, Bool, false, not, ◌==◌, if◌then◌else�
 use Rattle.lu_base.specs.declared.ids.Who.{Who}
 use Rattle.lu_trace.specs.declared.entries.Entry.{Entry}
 use Rattle.lu_trace.specs.declared.entries.Entry.TheVariants.{Grant, Wait, Release, Crash, Restore, Evict}
-use Rattle.lu_machine.specs.Tree.{same_life}
-use Rattle.lu_laws.specs.Words.Pasts.{Past, is_target}
-use Rattle.lu_laws.specs.Words.Queues.{has_cookie}
+use Rattle.lu_spec_machine.specs.Tree.{same_life}
+use Rattle.lu_spec_laws.specs.Words.Pasts.{Past, is_target}
+use Rattle.lu_spec_laws.specs.Words.Queues.{has_cookie}
 use Rattle.lu_judge_locks.specs.Lists.{Arrival}
 
 abbrev pub has_its_cookie : ℕ → Arrival → Bool

@@ -9,9 +9,9 @@ use Rattle.lu_msg.specs.declared.messages.Message.{Message}
 use Rattle.lu_msg.specs.declared.messages.Message.TheVariants.{Request}
 use Rattle.lu_msg.specs.declared.operations.Op.{Op}
 use Rattle.lu_msg.specs.declared.operations.Op.TheVariants as op
-use Rattle.lu_laws.specs.Words.Sends.{Sending}
-use Rattle.lu_judge.specs.declared.requests.Requests.{Requests}
-use Rattle.lu_judge.specs.Ledgers.{request_in}
+use Rattle.lu_spec_laws.specs.Words.Sends.{Sending}
+use Rattle.lu_judge_pass.specs.declared.requests.Requests.{Requests}
+use Rattle.lu_judge_pass.specs.Ledgers.{request_in}
 
 -- what a request of a life at the target asks for, as the table has it
 abbrev pub requested_in : Requests → ℕ → Who → ℕ → Option Op

@@ -1,12 +1,13 @@
 -- The locks of targets in the order of their lines, by resource, and which of them last.
-use Rattle.std.specs.Prelude.{◌≡◌, ℕ, ◌≤◌, ◌<◌, Bool, true, not, ◌==◌, ◌&&◌, nat_le, if◌then◌else◌, List, [], ◌∷◌, ◌++◌, map, filter, unwrap_or}
+use Rattle.std.specs.Prelude.{◌≡◌, ℕ, ◌≤◌, ◌<◌, Bool, true, not, ◌==◌, ◌&&◌, nat_le, if◌then◌else◌, List, [], ◌∷◌, ◌++◌, map, filter}
+use Rattle.std.specs.Prelude.{unwrap_or}
 use Rattle.std.specs.Option.{option_map}
 use Rattle.std.specs.HashMap.{get_by}
 use Rattle.std.specs.HashSet.{contains_by}
 use Rattle.lu_base.specs.declared.ids.Who.{Who}
 use Rattle.lu_base.specs.declared.locks.Lock.{Lock}
 use Rattle.lu_base.specs.declared.locks.Resource.{Resource}
-use Rattle.lu_laws.specs.Words.Queues.{is_on}
+use Rattle.lu_spec_laws.specs.Words.Queues.{is_on}
 use Rattle.lu_judge_locks.specs.declared.lists.Placed.{Placed}
 use Rattle.lu_judge_locks.specs.declared.lists.LockLists.{LockLists}
 
@@ -78,12 +79,14 @@ pub record SameEnds (old new : LockLists) : Type 0 where
 -- one list has no more than what lasts
 pub record Swept (old new : LockLists) (target : ℕ) (resource : Resource) : Type 0 where
   pub ends : SameEnds old new
-  pub lists : (t : ℕ) (other : Resource) → list_on new t other ≡ (if is_list target resource t other then lasting_on old target resource else list_on old t other)
+  pub lists : (t : ℕ) (other : Resource) → list_on new t other ≡ (if is_list target resource t other then lasting_on old target resource
+      else list_on old t other)
 
 -- besides, it has one more
 pub record Adds (old new : LockLists) (target : ℕ) (a : Arrival) : Type 0 where
   pub ends : SameEnds old new
-  pub lists : (t : ℕ) (other : Resource) → list_on new t other ≡ (if is_list target a.lock.resource t other then lasting_on old target a.lock.resource ++ a ∷ [] else list_on old t other)
+  pub lists : (t : ℕ) (other : Resource) → list_on new t other ≡ (if is_list target a.lock.resource t other
+      then lasting_on old target a.lock.resource ++ a ∷ [] else list_on old t other)
 
 -- of what came before this line what passes the test was ended
 pub record Ends (old new : LockLists) (place : ℕ) (gone : ℕ → Arrival → Bool) : Type 0 where

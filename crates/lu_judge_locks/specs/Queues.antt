@@ -3,7 +3,7 @@
 use Rattle.std.specs.Prelude.{◌≡◌, ℕ, ◌≤◌, Bool, ◌==◌, ◌&&◌, if◌then◌else◌, List, [], ◌∷◌, ◌++◌, length, map, filter, drop, unwrap_or}
 use Rattle.std.specs.Option.{option_map}
 use Rattle.std.specs.HashMap.{get_by}
-use Rattle.lu_laws.specs.Words.Pasts.{Past}
+use Rattle.lu_spec_laws.specs.Words.Pasts.{Past}
 use Rattle.lu_judge_locks.specs.declared.waiting.Waiting.{Waiting}
 use Rattle.lu_judge_locks.specs.declared.queues.Queues.{Queues}
 use Rattle.lu_judge_locks.specs.Lists.{Arrival, arrival_of, lasts, Adds, Ends, AreBefore, ShowsLists}
@@ -25,7 +25,8 @@ pub record ShowsWaiting (w : Waiting) (place : ℕ) (all : ℕ → List Arrival)
   pub lists : ShowsLists w.lists place all
   pub past : (t cookie : ℕ) → AreBefore place (queue_in w t cookie)
   pub within : (t cookie : ℕ) → passed_in w t cookie ≤ length (queue_in w t cookie)
-  pub queues : (t cookie : ℕ) → filter (lasts w.lists t) (drop (passed_in w t cookie) (queue_in w t cookie)) ≡ filter (has_its_cookie cookie) (all t)
+  pub queues : (t cookie : ℕ) → filter (lasts w.lists t) (drop (passed_in w t cookie) (queue_in w t cookie))
+      ≡ filter (has_its_cookie cookie) (all t)
 
 -- ---- changes
 
@@ -33,7 +34,8 @@ pub record ShowsWaiting (w : Waiting) (place : ℕ) (all : ℕ → List Arrival)
 pub record Came (old new : Waiting) (target : ℕ) (a : Arrival) : Type 0 where
   pub lists : Adds old.lists new.lists target a
   pub passed : (t cookie : ℕ) → passed_in new t cookie ≡ passed_in old t cookie
-  pub queues : (t cookie : ℕ) → queue_in new t cookie ≡ (if target == t && a.lock.cookie.0 == cookie then queue_in old target a.lock.cookie.0 ++ a ∷ [] else queue_in old t cookie)
+  pub queues : (t cookie : ℕ) → queue_in new t cookie ≡ (if target == t && a.lock.cookie.0 == cookie
+      then queue_in old target a.lock.cookie.0 ++ a ∷ [] else queue_in old t cookie)
 
 -- of what came before this line what passes the test waits no longer
 pub record Gone (old new : Waiting) (place : ℕ) (gone : ℕ → Arrival → Bool) : Type 0 where

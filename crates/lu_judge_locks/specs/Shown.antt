@@ -1,10 +1,10 @@
 -- The tables of the law of locks show the lines so far.
 use Rattle.std.specs.Prelude.{◌≡◌, length}
-use Rattle.lu_laws.specs.Words.Pasts.{Past}
-use Rattle.lu_judge.specs.Ledgers.{ShowsLedger}
+use Rattle.lu_spec_laws.specs.Words.Pasts.{Past}
+use Rattle.lu_judge_pass.specs.Ledgers.{ShowsLedger}
 use Rattle.lu_judge_windows.specs.Windows.{ShowsWindows}
-use Rattle.lu_judge_held.specs.Shown.{ShowsHeldLocks}
-use Rattle.lu_judge_contents.specs.Contents.{ShowsContents}
+use Rattle.lu_judge_windows.specs.Shown.{ShowsHeldLocks}
+use Rattle.lu_judge_names.specs.Contents.{ShowsContents}
 use Rattle.lu_judge_locks.specs.declared.locks.Locks.{Locks}
 use Rattle.lu_judge_locks.specs.Acts.{ShowsActs}
 use Rattle.lu_judge_locks.specs.Queues.{ShowsQueues}

@@ -3,7 +3,7 @@
 ghost use Rattle.std.specs.Prelude.{◌≡◌, ℕ, [], ◌∷◌, OnOk};
 ghost use Rattle.std.specs.Option.{option_map};
 ghost use Rattle.lu_trace.specs.declared.entries.Line.{Line};
-ghost use Rattle.lu_laws.specs.Words.Pasts.{Past, is_target, or_else};
+ghost use Rattle.lu_spec_laws.specs.Words.Pasts.{Past, is_target, or_else};
 ghost use Rattle.lu_judge_locks.specs.Acts.{acting_of, acting_in, acting_at, ShowsActs};
 
 use lu_base::{At, Memory, Node, Stamp, Who, Xid};

@@ -2,12 +2,12 @@
 
 ghost use Rattle.std.specs.Prelude.{◌≡◌, find, reverse, map};
 ghost use Rattle.std.specs.Option.{option_map};
-ghost use Rattle.lu_laws.specs.Words.Asked.{is_for, wanted_lock};
-ghost use Rattle.lu_judge.specs.Tables.{sending_of};
+ghost use Rattle.lu_spec_laws.specs.Words.Asked.{is_for, wanted_lock};
+ghost use Rattle.lu_judge_pass.specs.Tables.{sending_of};
 ghost use Rattle.lu_judge_locks.specs.Asked.{enqueued_lock, enqueued_of, enqueued_with, requested_in};
 
 use lu_base::{Ask, Cookie, Lock, Mode, Policy, Resource, Who};
-use lu_judge::{Requests, Sending};
+use lu_judge_pass::{Requests, Sending};
 use lu_msg::{Message, Op};
 use lu_part::Want;
 

@@ -3,7 +3,6 @@
 
 mod acts;
 mod asked;
-mod growth;
 mod lists;
 mod locks;
 mod orders;

@@ -1,7 +1,7 @@
 //! The locks of targets in the order of their lines, by resource, and which of them were ended.
 
 ghost use Rattle.std.specs.Prelude.{◌≡◌, ℕ, ◌<◌, ◌==◌, ◌&&◌, map, filter, IfOk, OnOk};
-ghost use Rattle.lu_machine.specs.Tree.{same_life};
+ghost use Rattle.lu_spec_machine.specs.Tree.{same_life};
 ghost use Rattle.lu_judge_locks.specs.Lists.{arrival_of, ended_at_cookie, ended_at_life, lasts, lasting_on, Swept, Adds, Ends, IsEmpty};
 
 use lu_base::{Cookie, Lock, Memory, Resource, Who};

@@ -1,7 +1,7 @@
 //! Which locks wait ahead of another, and which beside it.
 
 ghost use Rattle.std.specs.Prelude.{◌≡◌, ◌+◌, ◌≤◌, ◌++◌, length, take, drop, IfOk};
-ghost use Rattle.lu_laws.specs.Words.Queues.{has_cookie, ahead_of, without_first, asks};
+ghost use Rattle.lu_spec_laws.specs.Words.Queues.{has_cookie, ahead_of, without_first, asks};
 ghost use Rattle.lu_judge_locks.specs.Orders.{asks_in, locks_of};
 
 use super::lists::Placed;

@@ -3,8 +3,8 @@
 ghost use Rattle.std.specs.Prelude.{◌≡◌, ℕ, ◌+◌, ◌==◌, List, [], ◌∷◌, length, reverse, map, IfOk, OnOk};
 ghost use Rattle.std.specs.Option.{option_map};
 ghost use Rattle.lu_trace.specs.declared.entries.Line.{Line};
-ghost use Rattle.lu_laws.specs.Words.Pasts.{Past};
-ghost use Rattle.lu_laws.specs.Words.Queues.{on, asks, granted, waiting, waits};
+ghost use Rattle.lu_spec_laws.specs.Words.Pasts.{Past};
+ghost use Rattle.lu_spec_laws.specs.Words.Queues.{on, asks, granted, waiting, waits};
 ghost use Rattle.lu_judge_locks.specs.Arrivals.{granted_with, waiting_with};
 ghost use Rattle.lu_judge_locks.specs.Lists.{Arrival, ShowsLists};
 ghost use Rattle.lu_judge_locks.specs.Queues.{ShowsWaiting, ShowsQueues};

@@ -2,7 +2,7 @@
 
 ghost use Rattle.std.specs.Prelude.{◌≡◌, ℕ, ◌+◌, true, ◌==◌, ◌&&◌, if◌then◌else◌, List, [], drop, map, filter, slice_get, IfOk, IfSome, OnOk};
 ghost use Rattle.std.specs.Option.{option_map};
-ghost use Rattle.lu_machine.specs.Tree.{same_life};
+ghost use Rattle.lu_spec_machine.specs.Tree.{same_life};
 ghost use Rattle.lu_judge_locks.specs.Arrivals.{first_of, without_that};
 ghost use Rattle.lu_judge_locks.specs.Lists.{Arrival, arrival_of, lasts, lasting_on};
 ghost use Rattle.lu_judge_locks.specs.Queues.{passed_in, Came, Gone, ShowsWaiting};

@@ -3,9 +3,9 @@ use Rattle.std.specs.Prelude.{◌≡◌, ℕ, Option, Some, None, [], ◌∷◌}
 use Rattle.lu_base.specs.declared.ids.At.{At}
 use Rattle.lu_trace.specs.declared.entries.Entry.{Entry}
 use Rattle.lu_trace.specs.declared.entries.Entry.TheVariants.{Send}
-use Rattle.lu_laws.specs.Words.Pasts.{Past}
-use Rattle.lu_laws.specs.Words.Sends.{sends}
-use Rattle.lu_judge.specs.Tables.{ShowsCalls, ShowsDeaths, ShowsSendings}
+use Rattle.lu_spec_laws.specs.Words.Pasts.{Past}
+use Rattle.lu_spec_laws.specs.Words.Sends.{sends}
+use Rattle.lu_judge_pass.specs.Tables.{ShowsCalls, ShowsDeaths, ShowsSendings}
 use Rattle.lu_judge_messages.specs.declared.messages.Messages.{Messages}
 
 -- the turn of the newest line

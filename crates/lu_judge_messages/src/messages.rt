@@ -1,15 +1,15 @@
 //! The law of messages, decided from tables.
 
 ghost use Rattle.std.specs.Prelude.{◌≡◌, suc, [], reverse, None, IfOk, IsTrue, ◌↔◌};
-ghost use Rattle.lu_laws.specs.Words.Pasts.{Past};
-ghost use Rattle.lu_laws.specs.Words.Sends.{is_sent_to};
-ghost use Rattle.lu_laws.specs.Holds.{Holds};
-ghost use Rattle.lu_laws.specs.Laws.Messages.{Messages as MessagesLaw, Follows, Lives, Passes, IsFree, IsOpen};
-ghost use Rattle.lu_judge.specs.Firsts.{About, IsFirst};
+ghost use Rattle.lu_spec_laws.specs.Words.Pasts.{Past};
+ghost use Rattle.lu_spec_laws.specs.Words.Sends.{is_sent_to};
+ghost use Rattle.lu_spec_laws.specs.Holds.{Holds};
+ghost use Rattle.lu_spec_laws.specs.Laws.Messages.{Messages as MessagesLaw, Follows, Lives, Passes, IsFree, IsOpen};
+ghost use Rattle.lu_judge_pass.specs.Firsts.{About, IsFirst};
 ghost use Rattle.lu_judge_messages.specs.Shown.{Shown, last_after};
 
 use lu_base::{At, Memory, Node};
-use lu_judge::{Calls, Deaths, Judge, Sendings, first_broken, is_up_to, same_node};
+use lu_judge_pass::{Calls, Deaths, Judge, Sendings, first_broken, is_up_to, same_node};
 use lu_trace::{Entry, Line};
 use std::alloc::Global;
 

@@ -7,8 +7,8 @@ use Rattle.lu_base.specs.declared.ids.Node.{Node}
 use Rattle.lu_base.specs.declared.ids.Node.TheVariants.{Client, Target}
 use Rattle.lu_trace.specs.declared.entries.Entry.{Entry}
 use Rattle.lu_trace.specs.declared.entries.Line.{Line}
-use Rattle.lu_laws.specs.Words.Pasts.{Past, is_target, or_else}
-use Rattle.lu_laws.specs.Words.Scopes.{only_here, any_in, last_in}
+use Rattle.lu_spec_laws.specs.Words.Pasts.{Past, is_target, or_else}
+use Rattle.lu_spec_laws.specs.Words.Scopes.{only_here, any_in, last_in}
 use Rattle.lu_judge_recovery.specs.Turns.{turn_at, line_at}
 use Rattle.lu_judge_recovery.specs.Marks.{marked}
 
@@ -17,7 +17,8 @@ pub line_is : (l : Line) (t : ℕ) → l.at.node ≡ Target t → line_at l.at.s
 line_is l t is = ap (λ (n : Node). record { at = record { stamp = l.at.stamp; node = n }; entry = l.entry }) (sym is)
 
 -- a key is added to a set where the entry says so
-pub set_marked : (says here : Bool) (new old notion : Bool) → new ≡ (if here && says then true else old) → old ≡ notion → new ≡ ((says && here) || notion)
+pub set_marked : (says here : Bool) (new old notion : Bool) → new ≡ (if here && says then true else old) → old ≡ notion → new
+    ≡ ((says && here) || notion)
 set_marked true true new old notion is shows = is
 set_marked true false new old notion is shows = is ∙ shows
 set_marked false true new old notion is shows = is ∙ shows
@@ -36,20 +37,23 @@ only_nothing None here is = refl
 only_nothing (Some a) here is = ap (λ (b : Bool). then_some b a) is
 
 -- a value is put at a key where the line says it
-pub last_put : {A : Type 0} (b h : Bool) (a : A) (new old notion : Option A) → new ≡ (if h && b then Some a else old) → old ≡ notion → new ≡ or_else (only_here (then_some b a) h) notion
+pub last_put : {A : Type 0} (b h : Bool) (a : A) (new old notion : Option A) → new ≡ (if h && b then Some a else old) → old ≡ notion → new
+    ≡ or_else (only_here (then_some b a) h) notion
 last_put true true a new old notion is shows = is
 last_put true false a new old notion is shows = is ∙ shows
 last_put false true a new old notion is shows = is ∙ shows
 last_put false false a new old notion is shows = is ∙ shows
 
 -- nothing is said by a line of another node
-pub last_nothing : {A : Type 0} (o : Option A) (here : Bool) (old notion : Option A) → here ≡ false → old ≡ notion → old ≡ or_else (only_here o here) notion
+pub last_nothing : {A : Type 0} (o : Option A) (here : Bool) (old notion : Option A) → here ≡ false → old ≡ notion → old
+    ≡ or_else (only_here o here) notion
 last_nothing {A} o here old notion is shows = shows ∙ sym (ap (λ (p : Option A). or_else p notion) (only_nothing o here is))
 
 -- ---- a line of this turn, before later ones
 
 -- a key is added to a set where the entry says so
-pub set_here : (says here : Bool) (new old notion : Bool) → here ≡ true → new ≡ (if says then true else old) → old ≡ notion → new ≡ ((says && here) || notion)
+pub set_here : (says here : Bool) (new old notion : Bool) → here ≡ true → new ≡ (if says then true else old) → old ≡ notion → new
+    ≡ ((says && here) || notion)
 set_here says true new old notion is puts shows = by says puts where
   by : (says : Bool) → new ≡ (if says then true else old) → new ≡ ((says && true) || notion)
   by true puts = puts
@@ -57,7 +61,8 @@ set_here says true new old notion is puts shows = by says puts where
 set_here says false new old notion is puts shows = absurd (cc)
 
 -- a value is put at a key where the entry says it
-pub next_here : {A : Type 0} (says here : Bool) (a : A) (new old notion : Option A) → here ≡ true → new ≡ (if says then Some a else old) → old ≡ notion
+pub next_here : {A : Type 0} (says here : Bool) (a : A) (new old notion : Option A) → here ≡ true → new ≡ (if says then Some a else old)
+    → old ≡ notion
     → new ≡ or_else (only_here (then_some says a) here) notion
 next_here {A} says true a new old notion is puts shows = by says puts where
   by : (says : Bool) → new ≡ (if says then Some a else old) → new ≡ or_else (only_here (then_some says a) true) notion
@@ -66,13 +71,15 @@ next_here {A} says true a new old notion is puts shows = by says puts where
 next_here says false a new old notion is puts shows = absurd (cc)
 
 -- a value is taken out at a key, and another put there
-pub put_back : {A : Type 0} (here : Bool) (a : A) (new between old : Option A) → new ≡ (if here then Some a else between) → between ≡ (if here then None else old)
+pub put_back : {A : Type 0} (here : Bool) (a : A) (new between old : Option A) → new ≡ (if here then Some a else between) → between
+    ≡ (if here then None else old)
     → new ≡ (if here then Some a else old)
 put_back true a new between old puts takes = puts
 put_back false a new between old puts takes = puts ∙ takes
 
 -- a number is put at a target
-pub settled_put : (same : Bool) (n m : ℕ) (new old rest : Option ℕ) → new ≡ (if same then Some n else old) → (same ≡ true → n ≡ m) → unwrap_or old 0 ≡ unwrap_or rest 0
+pub settled_put : (same : Bool) (n m : ℕ) (new old rest : Option ℕ) → new ≡ (if same then Some n else old) → (same ≡ true → n ≡ m)
+    → unwrap_or old 0 ≡ unwrap_or rest 0
     → unwrap_or new 0 ≡ unwrap_or (or_else (then_some same m) rest) 0
 settled_put true n m new old rest puts is shown = ap (λ (o : Option ℕ). unwrap_or o 0) puts ∙ is refl
 settled_put false n m new old rest puts is shown = ap (λ (o : Option ℕ). unwrap_or o 0) puts ∙ shown

@@ -6,11 +6,14 @@ use Rattle.std.proofs.lemmas.Bool.{or_from}
 use Rattle.std.proofs.lemmas.List.{take_all, reverse-append}
 use Rattle.std.proofs.lemmas.List.Folds.{list_any_more, list_any_at, list_any-append}
 
-pub found_at : {A : Type 0} (p : A → Bool) (xs : List A) (i : ℕ) (d : A) → i < length xs → p (slice_index_or xs i d) ≡ true → list_any p xs ≡ true
+pub found_at : {A : Type 0} (p : A → Bool) (xs : List A) (i : ℕ) (d : A) → i < length xs → p (slice_index_or xs i d) ≡ true → list_any p xs
+    ≡ true
 found_at p xs i d below is = list_any_at p xs i d below is
 
-pub none_more : {A : Type 0} (p : A → Bool) (xs : List A) (i : ℕ) (d : A) → i < length xs → list_any p (take i xs) ≡ false → p (slice_index_or xs i d) ≡ false → list_any p (take (i + 1) xs) ≡ false
-none_more p xs i d below before here = list_any_more p xs i d below ∙ or_from (list_any p (take i xs)) (p (slice_index_or xs i d)) before here
+pub none_more : {A : Type 0} (p : A → Bool) (xs : List A) (i : ℕ) (d : A) → i < length xs → list_any p (take i xs) ≡ false
+    → p (slice_index_or xs i d) ≡ false → list_any p (take (i + 1) xs) ≡ false
+none_more p xs i d below before here = list_any_more p xs i d below
+    ∙ or_from (list_any p (take i xs)) (p (slice_index_or xs i d)) before here
 
 pub none_found : {A : Type 0} (p : A → Bool) (xs : List A) (i : ℕ) → length xs ≤ i → list_any p (take i xs) ≡ false → list_any p xs ≡ false
 none_found p xs i all none = ap (list_any p) (sym (take_all i xs all)) ∙ none
@@ -26,7 +29,8 @@ or_swap false false = refl
 pub any_reverse : {A : Type 0} (p : A → Bool) (xs : List A) → list_any p (reverse xs) ≡ list_any p xs
 any_reverse p [] = refl
 any_reverse p (x ∷ xs) =
-    ap (list_any p) (reverse-append (x ∷ []) xs) ∙ list_any-append p (reverse xs) (x ∷ []) ∙ ap (λ (b : Bool). b || (p x || false)) (any_reverse p xs)
+    ap (list_any p) (reverse-append (x ∷ []) xs) ∙ list_any-append p (reverse xs) (x ∷ [])
+    ∙ ap (λ (b : Bool). b || (p x || false)) (any_reverse p xs)
     ∙ or_swap (list_any p xs) (p x)
 
 any_map : {A B : Type 0} (p : B → Bool) (f : A → B) (xs : List A) → list_any p (map f xs) ≡ list_any (λ x. p (f x)) xs

@@ -1,5 +1,6 @@
 -- A list read into a table, item by item.
-use Rattle.std.proofs.Common.{◌≡◌, ℕ, ◌+◌, ◌<◌, ◌≤◌, Bool, true, false, List, [], ◌∷◌, ◌++◌, map, length, take, refl, ap, sym, ◌∙◌, subst, arith}
+use Rattle.std.proofs.Common.{◌≡◌, ℕ, ◌+◌, ◌<◌, ◌≤◌, Bool, true, false, List, [], ◌∷◌, ◌++◌, map, length, take, refl, ap, sym, ◌∙◌, subst}
+use Rattle.std.proofs.Common.{arith}
 use Rattle.std.specs.Prelude.{◌==◌, ◌&&◌, ◌||◌, nat_eq, reverse, filter, slice_index_or, if◌then◌else◌, Option, Some, None}
 use Rattle.std.specs.List.{list_any}
 use Rattle.std.proofs.lemmas.List.{take_more, take_all, reverse-append}
@@ -9,11 +10,11 @@ use Rattle.lu_base.specs.declared.ids.Who.{Who}
 use Rattle.lu_base.specs.declared.locks.Cause.{Cause}
 use Rattle.lu_base.specs.declared.locks.Lock.{Lock as LockOf}
 use Rattle.lu_msg.specs.declared.messages.LockReplay.{LockReplay}
-use Rattle.lu_machine.specs.Tree.{same_life}
-use Rattle.lu_laws.specs.Words.Pasts.{Past}
-use Rattle.lu_laws.specs.Words.Lost.{is_among}
-use Rattle.lu_laws.specs.Words.Closes.{cause_at, is_lock, find_lock, lock_of, stays_at}
-use Rattle.lu_laws.proofs.Tests.{life_is}
+use Rattle.lu_spec_machine.specs.Tree.{same_life}
+use Rattle.lu_spec_laws.specs.Words.Pasts.{Past}
+use Rattle.lu_spec_laws.specs.Words.Lost.{is_among}
+use Rattle.lu_spec_laws.specs.Words.Closes.{cause_at, is_lock, find_lock, lock_of, stays_at}
+use Rattle.lu_spec_laws.proofs.Tests.{life_is}
 use Rattle.lu_judge_recovery.specs.Closings.{is_listed}
 
 -- ---- numbers
@@ -30,7 +31,8 @@ same_number a b = by (a == b) refl where
   by true is = sym (eq-eqb b a (sym (eqb-true a b is)))
   by false is = sym (ne_eqb b a (λ e. absurd (cc (sym is ∙ eq-eqb a b (sym e)))))
 
-pub number_added : (numbers : List ℕ) (place n : ℕ) (new old : Bool) → place < length numbers → new ≡ (if slice_index_or numbers place 0 == n then true else old)
+pub number_added : (numbers : List ℕ) (place n : ℕ) (new old : Bool) → place < length numbers → new
+    ≡ (if slice_index_or numbers place 0 == n then true else old)
     → old ≡ is_among (take place numbers) n → new ≡ is_among (take (place + 1) numbers) n
 number_added numbers place n new old below puts shown =
     or_last old (slice_index_or numbers place 0 == n) new puts
@@ -40,7 +42,8 @@ number_added numbers place n new old below puts shown =
 
 -- ---- causes
 
-cause_put : (old same : Bool) (here there : Option Cause) (new : Option (Option Cause)) → (same ≡ true → here ≡ there) → new ≡ (if same then Some here else (if old then Some there else None))
+cause_put : (old same : Bool) (here there : Option Cause) (new : Option (Option Cause)) → (same ≡ true → here ≡ there) → new
+    ≡ (if same then Some here else (if old then Some there else None))
     → new ≡ (if old || same then Some there else None)
 cause_put true true here there new is puts = puts ∙ ap (λ (c : Option Cause). Some c) (is refl)
 cause_put true false here there new is puts = puts
@@ -52,10 +55,13 @@ pub cause_added : (lives : List Who) (place t : ℕ) (past : Past) (d who : Who)
     → old ≡ (if is_listed (take place lives) who then Some (cause_at t past who) else None)
     → new ≡ (if is_listed (take (place + 1) lives) who then Some (cause_at t past who) else None)
 cause_added lives place t past d who new old below puts shown =
-    cause_put (is_listed (take place lives) who) (same_life (slice_index_or lives place d) who) (cause_at t past (slice_index_or lives place d)) (cause_at t past who) new
+    cause_put (is_listed (take place lives) who) (same_life (slice_index_or lives place d) who)
+    (cause_at t past (slice_index_or lives place d)) (cause_at t past who) new
     (λ same. ap (cause_at t past) (life_is (slice_index_or lives place d) who same))
-    (puts ∙ ap (λ (o : Option (Option Cause)). if same_life (slice_index_or lives place d) who then Some (cause_at t past (slice_index_or lives place d)) else o) shown)
-    ∙ ap (λ (b : Bool). if b then Some (cause_at t past who) else None) (sym (list_any_more (λ (w : Who). same_life w who) lives place d below))
+    (puts ∙ ap (λ (o : Option (Option Cause)). if same_life (slice_index_or lives place d) who
+    then Some (cause_at t past (slice_index_or lives place d)) else o) shown)
+    ∙ ap (λ (b : Bool). if b then Some (cause_at t past who) else None)
+    (sym (list_any_more (λ (w : Who). same_life w who) lives place d below))
 
 -- ---- locks
 
@@ -79,7 +85,8 @@ read_more now read place d below =
 
 -- one more lock, where its life stays
 pub lock_added : (stays : LockReplay → Bool) (r : LockReplay) (older : List LockReplay) (who : Who) (cookie : ℕ) (new old : Option LockOf)
-    → new ≡ (if stays r && is_lock who cookie (lock_of r) then Some (lock_of r) else old) → old ≡ find_lock who cookie (restored_of stays older)
+    → new ≡ (if stays r && is_lock who cookie (lock_of r) then Some (lock_of r) else old) → old
+    ≡ find_lock who cookie (restored_of stays older)
     → new ≡ find_lock who cookie (restored_of stays (r ∷ older))
 lock_added stays r older who cookie new old puts shown =
     puts ∙ ap (λ (o : Option LockOf). if stays r && is_lock who cookie (lock_of r) then Some (lock_of r) else o) shown ∙ by (stays r) where
@@ -88,5 +95,6 @@ lock_added stays r older who cookie new old puts shown =
       by true = refl
       by false = refl
 
-pub read_all : {A : Type 0} (now : A → LockReplay) (read : List A) (place : ℕ) → length read ≤ place → read_of now read place ≡ reverse (map now read)
+pub read_all : {A : Type 0} (now : A → LockReplay) (read : List A) (place : ℕ) → length read ≤ place → read_of now read place
+    ≡ reverse (map now read)
 read_all now read place all = ap (λ xs. reverse (map now xs)) (take_all place read all)

@@ -3,10 +3,10 @@ use Rattle.std.specs.Prelude.{◌≡◌, ℕ, Bool, false, not, ◌==◌, ◌&&�
 use Rattle.std.specs.List.{list_any}
 use Rattle.std.specs.HashMap.{get_by}
 use Rattle.lu_base.specs.declared.ids.Who.{Who}
-use Rattle.lu_machine.specs.Tree.{same_life}
-use Rattle.lu_laws.specs.Words.Pasts.{Past}
-use Rattle.lu_laws.specs.Words.Queues.{granted}
-use Rattle.lu_laws.specs.Words.CalledBack.{is_granted_to, was_called_back}
+use Rattle.lu_spec_machine.specs.Tree.{same_life}
+use Rattle.lu_spec_laws.specs.Words.Pasts.{Past}
+use Rattle.lu_spec_laws.specs.Words.Queues.{granted}
+use Rattle.lu_spec_laws.specs.Words.CalledBack.{is_granted_to, was_called_back}
 use Rattle.lu_judge_recovery.specs.Turns.{turn_at}
 use Rattle.lu_judge_recovery.specs.declared.callbacks.Calls.{Calls}
 use Rattle.lu_judge_recovery.specs.declared.callbacks.Called.{Called}

@@ -12,12 +12,13 @@ use Rattle.lu_base.specs.declared.locks.Lock.{Lock as LockOf}
 use Rattle.lu_trace.specs.declared.entries.Entry.{Entry}
 use Rattle.lu_trace.specs.declared.entries.Entry.TheVariants.{Close as Closes, Kept, Restore, Evict}
 use Rattle.lu_trace.specs.declared.entries.Line.{Line}
-use Rattle.lu_machine.specs.Tree.{same_life}
-use Rattle.lu_laws.specs.Words.Pasts.{Past, same_turn, newest}
-use Rattle.lu_laws.specs.Words.Slots.{slots}
-use Rattle.lu_laws.specs.Words.Lost.{is_among}
-use Rattle.lu_laws.specs.Words.Closes.{lost_at, kept_at, cause_at, restored_at, find_lock, is_lock, last_kept, last_evicted, has_restored, closes_in, decided}
-use Rattle.lu_judge.specs.Ledgers.{ShowsLedger}
+use Rattle.lu_spec_machine.specs.Tree.{same_life}
+use Rattle.lu_spec_laws.specs.Words.Pasts.{Past, same_turn, newest}
+use Rattle.lu_spec_laws.specs.Words.Slots.{slots}
+use Rattle.lu_spec_laws.specs.Words.Lost.{is_among}
+use Rattle.lu_spec_laws.specs.Words.Closes.{lost_at, kept_at, cause_at, restored_at, find_lock, is_lock, last_kept, last_evicted}
+use Rattle.lu_spec_laws.specs.Words.Closes.{has_restored, closes_in, decided}
+use Rattle.lu_judge_pass.specs.Ledgers.{ShowsLedger}
 use Rattle.lu_judge_windows.specs.Windows.{ShowsWindows}
 use Rattle.lu_judge_recovery.specs.Failing.{is_failing}
 use Rattle.lu_judge_recovery.specs.Turns.{turn_at}

@@ -3,9 +3,9 @@ use Rattle.std.specs.Prelude.{◌≡◌, ℕ, Bool, ◌==◌, ◌&&◌, ◌||◌
 use Rattle.std.specs.HashSet.{contains_by}
 use Rattle.lu_base.specs.declared.ids.At.{At}
 use Rattle.lu_trace.specs.declared.entries.Line.{Line}
-use Rattle.lu_laws.specs.Words.Pasts.{Past}
-use Rattle.lu_laws.specs.Words.Scopes.{any_in, any_later}
-use Rattle.lu_laws.specs.Words.Lost.{is_fail}
+use Rattle.lu_spec_laws.specs.Words.Pasts.{Past}
+use Rattle.lu_spec_laws.specs.Words.Scopes.{any_in, any_later}
+use Rattle.lu_spec_laws.specs.Words.Lost.{is_fail}
 use Rattle.lu_judge_recovery.specs.Turns.{turn_at}
 use Rattle.lu_judge_recovery.specs.declared.failing.Failing.{Failing}
 

@@ -6,10 +6,10 @@ use Rattle.lu_msg.specs.declared.messages.Message.TheVariants as message
 use Rattle.lu_trace.specs.declared.entries.Entry.{Entry}
 use Rattle.lu_trace.specs.declared.entries.Entry.TheVariants.{Take, Joined}
 use Rattle.lu_trace.specs.declared.entries.Line.{Line}
-use Rattle.lu_machine.specs.Tree.{same_life}
-use Rattle.lu_laws.specs.Words.Pasts.{Past}
-use Rattle.lu_laws.specs.Words.Sends.{message_of}
-use Rattle.lu_laws.specs.Laws.Recovery.{BringsBack}
+use Rattle.lu_spec_machine.specs.Tree.{same_life}
+use Rattle.lu_spec_laws.specs.Words.Pasts.{Past}
+use Rattle.lu_spec_laws.specs.Words.Sends.{message_of}
+use Rattle.lu_spec_laws.specs.Laws.Recovery.{BringsBack}
 
 -- whose message hands something in, or asks to join
 abbrev pub handing : Message → Option Who

@@ -5,9 +5,9 @@ use Rattle.std.specs.HashMap.{get_by}
 use Rattle.std.specs.HashSet.{contains_by}
 use Rattle.lu_base.specs.declared.ids.Who.{Who}
 use Rattle.lu_trace.specs.declared.entries.Entry.{Entry}
-use Rattle.lu_laws.specs.Words.Pasts.{Past}
-use Rattle.lu_laws.specs.Words.Scopes.{any_in}
-use Rattle.lu_laws.specs.Laws.Recovery.{is_tick, is_commit, is_take, is_back_of, seen_in}
+use Rattle.lu_spec_laws.specs.Words.Pasts.{Past}
+use Rattle.lu_spec_laws.specs.Words.Scopes.{any_in}
+use Rattle.lu_spec_laws.specs.Laws.Recovery.{is_tick, is_commit, is_take, is_back_of, seen_in}
 use Rattle.lu_judge_recovery.specs.Turns.{turn_at}
 use Rattle.lu_judge_recovery.specs.declared.made.Made.{Made}
 use Rattle.lu_judge_recovery.specs.declared.marks.Marks.{Marks}

@@ -3,10 +3,10 @@ use Rattle.std.specs.Prelude.{◌≡◌, ℕ, ◌==◌, ◌&&◌, Option, unwrap
 use Rattle.std.specs.Option.{option_map}
 use Rattle.std.specs.HashMap.{get_by}
 use Rattle.lu_base.specs.declared.locks.Lock.{Lock as LockOf}
-use Rattle.lu_laws.specs.Words.Pasts.{Past}
-use Rattle.lu_laws.specs.Words.Scopes.{last_at}
-use Rattle.lu_laws.specs.Words.Seen.{granted_as, restored_as}
-use Rattle.lu_laws.specs.Words.Closes.{committed_at_close}
+use Rattle.lu_spec_laws.specs.Words.Pasts.{Past}
+use Rattle.lu_spec_laws.specs.Words.Scopes.{last_at}
+use Rattle.lu_spec_laws.specs.Words.Seen.{granted_as, restored_as}
+use Rattle.lu_spec_laws.specs.Words.Closes.{committed_at_close}
 use Rattle.lu_judge_recovery.specs.declared.noted.Noted.{Noted}
 use Rattle.lu_judge_recovery.specs.declared.settled.Settled.{Settled}
 

@@ -8,7 +8,7 @@ use Rattle.lu_base.specs.declared.ids.Who.{Who}
 use Rattle.lu_base.specs.declared.locks.Cause.{Cause}
 use Rattle.lu_base.specs.declared.locks.Lock.{Lock as LockOf}
 use Rattle.lu_trace.specs.declared.entries.Line.{Line}
-use Rattle.lu_laws.specs.Words.Closes.{will_keep, will_evict, will_restore}
+use Rattle.lu_spec_laws.specs.Words.Closes.{will_keep, will_evict, will_restore}
 use Rattle.lu_judge_recovery.specs.declared.rest.Rest.{Rest}
 
 abbrev pub will_keep_in : Rest → ℕ → Bool

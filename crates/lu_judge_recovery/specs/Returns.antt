@@ -2,8 +2,8 @@
 use Rattle.std.specs.Prelude.{◌≡◌, ℕ, Bool, ◌==◌, ◌&&◌}
 use Rattle.std.specs.HashSet.{contains_by}
 use Rattle.lu_base.specs.declared.ids.Who.{Who}
-use Rattle.lu_laws.specs.Words.Pasts.{Past}
-use Rattle.lu_laws.specs.Laws.Recovery.{came_back}
+use Rattle.lu_spec_laws.specs.Words.Pasts.{Past}
+use Rattle.lu_spec_laws.specs.Laws.Recovery.{came_back}
 use Rattle.lu_judge_recovery.specs.Turns.{turn_at}
 use Rattle.lu_judge_recovery.specs.declared.returns.Returns.{Returns}
 

@@ -1,8 +1,8 @@
 -- The tables of the law of recovery show the lines so far, and those of the whole trace all of its lines.
 use Rattle.std.specs.Prelude.{◌≡◌, reverse}
-use Rattle.lu_laws.specs.Words.Pasts.{Past}
-use Rattle.lu_laws.specs.Words.Clients.{clients}
-use Rattle.lu_judge_seen.specs.Formed.{AreFormed}
+use Rattle.lu_spec_laws.specs.Words.Pasts.{Past}
+use Rattle.lu_spec_laws.specs.Words.Clients.{clients}
+use Rattle.lu_judge_names.specs.Formed.{AreFormed}
 use Rattle.lu_judge_recovery.specs.Callbacks.{ShowsCallbacks}
 use Rattle.lu_judge_recovery.specs.Clients.{count_of}
 use Rattle.lu_judge_recovery.specs.Closings.{ShowsClosings}

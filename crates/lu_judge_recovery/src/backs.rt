@@ -1,11 +1,11 @@
 //! Lives that come back, and their `back` lines.
 
 ghost use Rattle.std.specs.Prelude.{◌≡◌, true, IsTrue, ◌↔◌};
-ghost use Rattle.lu_laws.specs.Words.Pasts.{Past};
-ghost use Rattle.lu_laws.specs.Words.Scopes.{any_later};
-ghost use Rattle.lu_laws.specs.Laws.Recovery.{is_back_of, BackAt, BringsBack};
-ghost use Rattle.lu_judge.specs.Places.{InOrder};
-ghost use Rattle.lu_judge.specs.Ledgers.{ShowsLedger};
+ghost use Rattle.lu_spec_laws.specs.Words.Pasts.{Past};
+ghost use Rattle.lu_spec_laws.specs.Words.Scopes.{any_later};
+ghost use Rattle.lu_spec_laws.specs.Laws.Recovery.{is_back_of, BackAt, BringsBack};
+ghost use Rattle.lu_judge_pass.specs.Places.{InOrder};
+ghost use Rattle.lu_judge_pass.specs.Ledgers.{ShowsLedger};
 ghost use Rattle.lu_judge_windows.specs.Windows.{ShowsWindows};
 ghost use Rattle.lu_judge_recovery.specs.Handing.{named, BringsNamed};
 ghost use Rattle.lu_judge_recovery.specs.Marks.{ShowsMarks};
@@ -17,7 +17,7 @@ use super::marks::Marks;
 use super::returns::{Returns, comes_back};
 use super::turns::Turn;
 use lu_base::{At, Who};
-use lu_judge::{Ledger, rest_of_turn};
+use lu_judge_pass::{Ledger, rest_of_turn};
 use lu_judge_windows::Windows;
 use lu_trace::{Entry, Line};
 

@@ -5,8 +5,8 @@ ghost use Rattle.std.specs.Option.{option_copied};
 ghost use Rattle.std.specs.List.{list_any};
 ghost use Rattle.lu_base.specs.declared.ids.Who.{Who as WhoOf};
 ghost use Rattle.lu_trace.specs.declared.entries.Line.{Line};
-ghost use Rattle.lu_machine.specs.Tree.{same_life};
-ghost use Rattle.lu_laws.specs.Words.Pasts.{Past};
+ghost use Rattle.lu_spec_machine.specs.Tree.{same_life};
+ghost use Rattle.lu_spec_laws.specs.Words.Pasts.{Past};
 ghost use Rattle.lu_judge_recovery.specs.Turns.{line_at};
 ghost use Rattle.lu_judge_recovery.specs.Callbacks.{lives_of, is_held, is_called, was_called, was_called_in, target_of, ShowsTarget, ShowsCallbacks};
 

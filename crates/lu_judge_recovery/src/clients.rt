@@ -1,7 +1,7 @@
 //! The clients of a trace.
 
 ghost use Rattle.std.specs.Prelude.{◌≡◌, reverse, max};
-ghost use Rattle.lu_laws.specs.Words.Clients.{clients, node_clients, message_clients, entry_clients, clients_step};
+ghost use Rattle.lu_spec_laws.specs.Words.Clients.{clients, node_clients, message_clients, entry_clients, clients_step};
 ghost use Rattle.lu_judge_recovery.specs.Clients.{count_of};
 
 use lu_base::Node;

@@ -3,19 +3,19 @@
 ghost use Rattle.std.specs.Prelude.{◌≡◌, ℕ, ◌==◌, ◌&&◌, ◌||◌, List, map, reverse, IsTrue, ◌↔◌, IfOk, OnOk, if◌then◌else◌};
 ghost use Rattle.std.specs.HashSet.{contains_by};
 ghost use Rattle.lu_base.specs.declared.ids.Who.{Who as WhoOf};
-ghost use Rattle.lu_laws.specs.Words.Pasts.{Past};
-ghost use Rattle.lu_laws.specs.Words.Lost.{is_among};
-ghost use Rattle.lu_laws.specs.Words.Boots.{boot};
-ghost use Rattle.lu_laws.specs.Words.Slots.{has_slot};
-ghost use Rattle.lu_laws.specs.Words.Handed.{handed, locks};
-ghost use Rattle.lu_laws.specs.Words.Learned.{heard_number, saw};
-ghost use Rattle.lu_laws.specs.Words.Closes.{lost_at, rests_on, cause_at, stays_at, restored_at, lock_of, is_lock, find_lock};
-ghost use Rattle.lu_judge.specs.Ledgers.{ShowsLedger};
+ghost use Rattle.lu_spec_laws.specs.Words.Pasts.{Past};
+ghost use Rattle.lu_spec_laws.specs.Words.Lost.{is_among};
+ghost use Rattle.lu_spec_laws.specs.Words.Boots.{boot};
+ghost use Rattle.lu_spec_laws.specs.Words.Slots.{has_slot};
+ghost use Rattle.lu_spec_laws.specs.Words.Handed.{handed, locks};
+ghost use Rattle.lu_spec_laws.specs.Words.Learned.{heard_number, saw};
+ghost use Rattle.lu_spec_laws.specs.Words.Closes.{lost_at, rests_on, cause_at, stays_at, restored_at, lock_of, is_lock, find_lock};
+ghost use Rattle.lu_judge_pass.specs.Ledgers.{ShowsLedger};
 ghost use Rattle.lu_judge_windows.specs.Windows.{ShowsWindows};
 ghost use Rattle.lu_judge_recovery.specs.Closings.{KnowsClose, cause_among, cause_or_absent, lock_among, AreCauses};
 
 use lu_base::{Ask, Cause, Cookie, Lock, Memory, Numbers, Resource, Who};
-use lu_judge::Ledger;
+use lu_judge_pass::Ledger;
 use lu_judge_windows::Windows;
 use lu_msg::LockReplay;
 use std::alloc::Global;

@@ -1,8 +1,8 @@
 //! Commits.
 
 ghost use Rattle.std.specs.Prelude.{◌≡◌, ◌==◌, ◌||◌, IsTrue, ◌↔◌};
-ghost use Rattle.lu_laws.specs.Words.Pasts.{Past};
-ghost use Rattle.lu_laws.specs.Laws.Recovery.{stands, CommitAt};
+ghost use Rattle.lu_spec_laws.specs.Words.Pasts.{Past};
+ghost use Rattle.lu_spec_laws.specs.Laws.Recovery.{stands, CommitAt};
 ghost use Rattle.lu_judge_windows.specs.Windows.{ShowsWindows};
 
 use lu_base::Txn;

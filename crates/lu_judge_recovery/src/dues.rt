@@ -1,7 +1,7 @@
 //! Seen numbers that are due, compared.
 
 ghost use Rattle.std.specs.Prelude.{◌≡◌, IfOk, IsTrue, ◌↔◌};
-ghost use Rattle.lu_laws.specs.Laws.Recovery.{other_than};
+ghost use Rattle.lu_spec_laws.specs.Laws.Recovery.{other_than};
 
 use lu_base::{Memory, Numbers, Txn};
 use std::alloc::Global;

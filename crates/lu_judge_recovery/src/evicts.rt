@@ -4,12 +4,12 @@ ghost use Rattle.std.specs.Prelude.{◌≡◌, ℕ, ◌<◌, List, IsTrue, ◌�
 ghost use Rattle.std.specs.List.{list_any};
 ghost use Rattle.std.specs.Option.{option_copied};
 ghost use Rattle.lu_trace.specs.declared.entries.Line.{Line};
-ghost use Rattle.lu_laws.specs.Words.Pasts.{Past};
-ghost use Rattle.lu_laws.specs.Laws.Messages.{Follows};
-ghost use Rattle.lu_laws.specs.Laws.Recovery.{joins_after, takes_newer, is_above, ExpiredAt, EvictedBy, EvictAt, EvictedAfter};
-ghost use Rattle.lu_judge.specs.Places.{Ordered};
-ghost use Rattle.lu_judge.specs.declared.sendings.Sending.{Sending as Posted};
-ghost use Rattle.lu_judge.specs.Ledgers.{ShowsLedger};
+ghost use Rattle.lu_spec_laws.specs.Words.Pasts.{Past};
+ghost use Rattle.lu_spec_laws.specs.Laws.Messages.{Follows};
+ghost use Rattle.lu_spec_laws.specs.Laws.Recovery.{joins_after, takes_newer, is_above, ExpiredAt, EvictedBy, EvictAt, EvictedAfter};
+ghost use Rattle.lu_judge_pass.specs.Places.{Ordered};
+ghost use Rattle.lu_judge_pass.specs.declared.sendings.Sending.{Sending as Posted};
+ghost use Rattle.lu_judge_pass.specs.Ledgers.{ShowsLedger};
 ghost use Rattle.lu_judge_recovery.specs.Callbacks.{ShowsCallbacks};
 ghost use Rattle.lu_judge_recovery.specs.Closings.{cause_in, FitsDecided};
 ghost use Rattle.lu_judge_recovery.specs.Known.{ShowsKnown};
@@ -22,7 +22,7 @@ use super::known::Known;
 use super::marks::Marks;
 use super::turns::Turn;
 use lu_base::{Cause, Who};
-use lu_judge::{Ledger, Sending};
+use lu_judge_pass::{Ledger, Sending};
 use lu_msg::Message;
 
 /// Whether the message is the join of a newer life of that client.

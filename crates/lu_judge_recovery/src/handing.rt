@@ -1,12 +1,12 @@
 //! The life that a line of a target may bring back.
 
 ghost use Rattle.std.specs.Prelude.{◌≡◌};
-ghost use Rattle.lu_laws.specs.Words.Pasts.{Past};
-ghost use Rattle.lu_judge.specs.Ledgers.{ShowsLedger};
+ghost use Rattle.lu_spec_laws.specs.Words.Pasts.{Past};
+ghost use Rattle.lu_judge_pass.specs.Ledgers.{ShowsLedger};
 ghost use Rattle.lu_judge_recovery.specs.Handing.{handing, named};
 
 use lu_base::Who;
-use lu_judge::Ledger;
+use lu_judge_pass::Ledger;
 use lu_msg::Message;
 use lu_trace::Entry;
 

@@ -4,12 +4,12 @@ ghost use Rattle.std.specs.Prelude.{◌≡◌, ◌≤◌, false, All, List, [], 
 ghost use Rattle.std.specs.Option.{option_copied};
 ghost use Rattle.lu_trace.specs.declared.entries.Line.{Line as LineOf};
 ghost use Rattle.lu_trace.specs.WellFormed.{IsLine, IsWellFormed};
-ghost use Rattle.lu_laws.specs.Words.Pasts.{Past};
-ghost use Rattle.lu_laws.specs.Holds.{Holds};
-ghost use Rattle.lu_laws.specs.Laws.Messages.{Messages};
-ghost use Rattle.lu_laws.specs.Laws.Recovery.{Recovery as RecoveryLaw, RecoveryAt, CloseAt};
-ghost use Rattle.lu_judge.specs.Firsts.{IsFirst};
-ghost use Rattle.lu_judge.specs.Places.{InOrder, Placed, PlacedIn};
+ghost use Rattle.lu_spec_laws.specs.Words.Pasts.{Past};
+ghost use Rattle.lu_spec_laws.specs.Holds.{Holds};
+ghost use Rattle.lu_spec_laws.specs.Laws.Messages.{Messages};
+ghost use Rattle.lu_spec_laws.specs.Laws.Recovery.{Recovery as RecoveryLaw, RecoveryAt, CloseAt};
+ghost use Rattle.lu_judge_pass.specs.Firsts.{IsFirst};
+ghost use Rattle.lu_judge_pass.specs.Places.{InOrder, Placed, PlacedIn};
 ghost use Rattle.lu_judge_recovery.specs.Clients.{count_of};
 ghost use Rattle.lu_judge_recovery.specs.Closings.{follows, FitsDecided};
 ghost use Rattle.lu_judge_recovery.specs.Failing.{is_failing, fails};
@@ -36,7 +36,7 @@ use super::settled::Settled;
 use super::transactions::allows_transaction;
 use super::turns::Turn;
 use lu_base::{Memory, Node};
-use lu_judge::{Judge, first_broken};
+use lu_judge_pass::{Judge, first_broken};
 use lu_trace::{Entry, Line, Trace};
 use std::alloc::Global;
 

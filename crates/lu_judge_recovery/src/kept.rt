@@ -3,8 +3,8 @@
 ghost use Rattle.std.specs.Prelude.{ℕ, List, Some, IsTrue, ◌↔◌};
 ghost use Rattle.std.specs.Option.{option_copied};
 ghost use Rattle.lu_trace.specs.declared.entries.Line.{Line};
-ghost use Rattle.lu_laws.specs.Words.Pasts.{Past};
-ghost use Rattle.lu_laws.specs.Laws.Recovery.{KeptAt, RestoredAfter, RestoredAt};
+ghost use Rattle.lu_spec_laws.specs.Words.Pasts.{Past};
+ghost use Rattle.lu_spec_laws.specs.Laws.Recovery.{KeptAt, RestoredAfter, RestoredAt};
 ghost use Rattle.lu_judge_recovery.specs.Closings.{lock_in, has_restored_in, KeptBy, FitsDecided};
 ghost use Rattle.lu_judge_recovery.specs.Noted.{ShowsSettled};
 ghost use Rattle.lu_judge_recovery.specs.Turns.{turn_at};

@@ -1,19 +1,18 @@
 //! What the law looks into beside its own tables: the ledger, the windows, the contents, and what transactions wrote.
 
 ghost use Rattle.std.specs.Prelude.{◌≡◌, ◌≤◌, [], ◌∷◌, IfOk, OnOk};
-ghost use Rattle.lu_laws.specs.Words.Pasts.{Past};
+ghost use Rattle.lu_spec_laws.specs.Words.Pasts.{Past};
 ghost use Rattle.lu_trace.specs.WellFormed.{IsLine};
-ghost use Rattle.lu_laws.specs.Words.Seen.{seen_by};
-ghost use Rattle.lu_laws.specs.Laws.Messages.{Follows};
-ghost use Rattle.lu_laws.specs.Laws.Recovery.{request_sees};
-ghost use Rattle.lu_judge.specs.Places.{Ordered};
-ghost use Rattle.lu_judge_seen.specs.Seen.{CommitRises};
+ghost use Rattle.lu_spec_laws.specs.Words.Seen.{seen_by};
+ghost use Rattle.lu_spec_laws.specs.Laws.Messages.{Follows};
+ghost use Rattle.lu_spec_laws.specs.Laws.Recovery.{request_sees};
+ghost use Rattle.lu_judge_pass.specs.Places.{Ordered};
+ghost use Rattle.lu_judge_names.specs.Seen.{CommitRises};
 ghost use Rattle.lu_judge_recovery.specs.Known.{ShowsKnown};
 
 use lu_base::{Memory, Numbers, Txn, Who, Xid};
-use lu_judge::Ledger;
-use lu_judge_contents::Contents;
-use lu_judge_seen::{SeenLog, touches_at};
+use lu_judge_names::{Contents, SeenLog, touches_at};
+use lu_judge_pass::Ledger;
 use lu_judge_windows::Windows;
 use lu_msg::Answer;
 use lu_part::Parts;

@@ -3,7 +3,7 @@
 ghost use Rattle.std.specs.Prelude.{◌≡◌, [], ◌∷◌, OnOk};
 ghost use Rattle.std.specs.Option.{option_map};
 ghost use Rattle.lu_trace.specs.declared.entries.Line.{Line};
-ghost use Rattle.lu_laws.specs.Words.Pasts.{Past};
+ghost use Rattle.lu_spec_laws.specs.Words.Pasts.{Past};
 ghost use Rattle.lu_judge_recovery.specs.Marks.{made_in, ShowsMade};
 
 use super::turns::Turn;

@@ -2,7 +2,7 @@
 
 ghost use Rattle.std.specs.Prelude.{◌≡◌, [], ◌∷◌, OnOk};
 ghost use Rattle.lu_trace.specs.declared.entries.Line.{Line};
-ghost use Rattle.lu_laws.specs.Words.Pasts.{Past};
+ghost use Rattle.lu_spec_laws.specs.Words.Pasts.{Past};
 ghost use Rattle.lu_judge_recovery.specs.Marks.{has_ticked, has_committed, has_taken, has_back, Marked, ShowsMarks};
 
 use super::turns::Turn;

@@ -3,12 +3,12 @@
 ghost use Rattle.std.specs.Prelude.{◌≡◌, [], ◌∷◌, IfOk, OnOk};
 ghost use Rattle.std.specs.Option.{option_map};
 ghost use Rattle.lu_trace.specs.declared.entries.Line.{Line};
-ghost use Rattle.lu_laws.specs.Words.Pasts.{Past};
-ghost use Rattle.lu_laws.specs.Words.Seen.{policy_touches, notice_touches};
+ghost use Rattle.lu_spec_laws.specs.Words.Pasts.{Past};
+ghost use Rattle.lu_spec_laws.specs.Words.Seen.{policy_touches, notice_touches};
 ghost use Rattle.lu_judge_recovery.specs.Noted.{granted_in, restored_in, ShowsNoted};
 
 use lu_base::{Cookie, Lock, Memory, Node, Policy, Resource};
-use lu_judge_seen::range;
+use lu_judge_names::range;
 use lu_msg::GrantNotice;
 use lu_part::Parts;
 use lu_trace::{Entry, Line};

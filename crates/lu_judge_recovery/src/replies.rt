@@ -2,12 +2,12 @@
 
 ghost use Rattle.std.specs.Prelude.{◌≡◌, IfOk, IsTrue, ◌↔◌};
 ghost use Rattle.std.specs.List.{list_any};
-ghost use Rattle.lu_laws.specs.Words.Pasts.{Past};
-ghost use Rattle.lu_laws.specs.Laws.Messages.{Follows};
-ghost use Rattle.lu_laws.specs.Laws.Recovery.{answers_size, is_executed, ReplyAt, NoticeAt, SentAt};
-ghost use Rattle.lu_judge.specs.Places.{Ordered};
-ghost use Rattle.lu_judge.specs.declared.sendings.Sending.{Sending as Posted};
-ghost use Rattle.lu_judge.specs.Ledgers.{ShowsLedger};
+ghost use Rattle.lu_spec_laws.specs.Words.Pasts.{Past};
+ghost use Rattle.lu_spec_laws.specs.Laws.Messages.{Follows};
+ghost use Rattle.lu_spec_laws.specs.Laws.Recovery.{answers_size, is_executed, ReplyAt, NoticeAt, SentAt};
+ghost use Rattle.lu_judge_pass.specs.Places.{Ordered};
+ghost use Rattle.lu_judge_pass.specs.declared.sendings.Sending.{Sending as Posted};
+ghost use Rattle.lu_judge_pass.specs.Ledgers.{ShowsLedger};
 ghost use Rattle.lu_judge_recovery.specs.Known.{ShowsKnown};
 ghost use Rattle.lu_judge_recovery.specs.Marks.{ShowsMade};
 ghost use Rattle.lu_judge_recovery.specs.Noted.{ShowsNoted};
@@ -19,7 +19,7 @@ use super::made::Made;
 use super::noted::Noted;
 use super::turns::Turn;
 use lu_base::{At, Memory, Node, Stamp, Who, Xid};
-use lu_judge::{Ledger, Sending, same_turn};
+use lu_judge_pass::{Ledger, Sending, same_turn};
 use lu_msg::{GrantNotice, Message, Reply};
 use std::alloc::Global;
 

@@ -4,12 +4,12 @@ ghost use Rattle.std.specs.Prelude.{◌≡◌, true, List, [], ◌∷◌, IfOk, 
 ghost use Rattle.std.specs.Option.{option_map};
 ghost use Rattle.lu_base.specs.declared.ids.At.{At as AtOf};
 ghost use Rattle.lu_trace.specs.declared.entries.Line.{Line};
-ghost use Rattle.lu_laws.specs.Words.Pasts.{same_turn};
-ghost use Rattle.lu_judge.specs.Places.{InOrder};
+ghost use Rattle.lu_spec_laws.specs.Words.Pasts.{same_turn};
+ghost use Rattle.lu_judge_pass.specs.Places.{InOrder};
 ghost use Rattle.lu_judge_recovery.specs.Rest.{will_keep_in, will_evict_in, will_restore_in, ShowsRest};
 
 use lu_base::{At, Cause, Cookie, Lock, Memory, Who};
-use lu_judge::rest_of_turn;
+use lu_judge_pass::rest_of_turn;
 use lu_trace::{Entry, Line};
 use std::alloc::Global;
 use std::collections::{HashMap, HashSet};

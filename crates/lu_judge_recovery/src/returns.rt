@@ -3,16 +3,16 @@
 ghost use Rattle.std.specs.Prelude.{◌≡◌, [], ◌∷◌, OnOk};
 ghost use Rattle.lu_base.specs.declared.ids.Node.TheVariants.{Target};
 ghost use Rattle.lu_trace.specs.declared.entries.Line.{Line};
-ghost use Rattle.lu_laws.specs.Words.Pasts.{Past};
-ghost use Rattle.lu_laws.specs.Words.Handed.{comes_back};
-ghost use Rattle.lu_judge.specs.Ledgers.{ShowsLedger};
+ghost use Rattle.lu_spec_laws.specs.Words.Pasts.{Past};
+ghost use Rattle.lu_spec_laws.specs.Words.Handed.{comes_back};
+ghost use Rattle.lu_judge_pass.specs.Ledgers.{ShowsLedger};
 ghost use Rattle.lu_judge_windows.specs.Windows.{ShowsWindows};
 ghost use Rattle.lu_judge_recovery.specs.Returns.{has_returned, ShowsReturns};
 
 use super::handing::named;
 use super::turns::Turn;
 use lu_base::{Memory, Node, Who};
-use lu_judge::Ledger;
+use lu_judge_pass::Ledger;
 use lu_judge_windows::Windows;
 use lu_trace::Line;
 use std::alloc::Global;

@@ -1,14 +1,14 @@
 //! The lives with slots at a target.
 
 ghost use Rattle.std.specs.Prelude.{◌≡◌, [], ◌∷◌, ◌++◌, filter, IfOk, OnOk};
-ghost use Rattle.lu_laws.specs.Words.Pasts.{Past};
-ghost use Rattle.lu_laws.specs.Words.Slots.{has_slot, first_lives, joined_lives, slots};
-ghost use Rattle.lu_judge.specs.Ledgers.{ShowsLedger};
+ghost use Rattle.lu_spec_laws.specs.Words.Pasts.{Past};
+ghost use Rattle.lu_spec_laws.specs.Words.Slots.{has_slot, first_lives, joined_lives, slots};
+ghost use Rattle.lu_judge_pass.specs.Ledgers.{ShowsLedger};
 ghost use Rattle.lu_judge_windows.specs.Windows.{ShowsWindows};
 ghost use Rattle.lu_judge_recovery.specs.Clients.{count_of};
 
 use lu_base::{Lives, Memory, Who};
-use lu_judge::Ledger;
+use lu_judge_pass::Ledger;
 use lu_judge_windows::Windows;
 use std::alloc::Global;
 

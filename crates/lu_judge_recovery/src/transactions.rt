@@ -1,8 +1,8 @@
 //! Transactions: their numbers, and what they saw.
 
 ghost use Rattle.std.specs.Prelude.{◌≡◌, IfOk, IsTrue, ◌↔◌};
-ghost use Rattle.lu_laws.specs.Words.Pasts.{Past};
-ghost use Rattle.lu_laws.specs.Laws.Recovery.{request_sees, TransactionAt};
+ghost use Rattle.lu_spec_laws.specs.Words.Pasts.{Past};
+ghost use Rattle.lu_spec_laws.specs.Laws.Recovery.{request_sees, TransactionAt};
 ghost use Rattle.lu_judge_recovery.specs.Known.{ShowsKnown};
 
 use super::dues::are_same;

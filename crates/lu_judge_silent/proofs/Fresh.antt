@@ -4,7 +4,7 @@ use Rattle.std.specs.Prelude.{◌&&◌, nat_lt, if◌then◌else◌, IfSome}
 use Rattle.std.proofs.lemmas.Bool.Decides.{nat_tests}
 use Rattle.lu_msg.specs.declared.calls.Call.{Call}
 use Rattle.lu_msg.specs.declared.calls.Call.TheVariants as call
-use Rattle.lu_laws.specs.Words.Repeats.{rebinds}
+use Rattle.lu_spec_laws.specs.Words.Repeats.{rebinds}
 use Rattle.lu_judge_silent.specs.declared.readings.Reading.{Reading}
 use Rattle.lu_judge_silent.specs.Readings.{asks, reads_of, rebound_by}
 use Rattle.lu_judge_silent.specs.Tables.{Stood, Marks, rebound_for, is_fresh, if_fresh, calm_at, knows}
@@ -34,14 +34,16 @@ since_later now (Some st) below = omega (arith, below)
 -- ---- what stands
 
 -- it is disturbed now
-pub none_fresh : (m : Marks) (now : ℕ) (o : Option Stood) → now ≤ m.disturbed → IfSome o (λ (st : Stood). st.since < now) → if_fresh m o ≡ None
+pub none_fresh : (m : Marks) (now : ℕ) (o : Option Stood) → now ≤ m.disturbed → IfSome o (λ (st : Stood). st.since < now) → if_fresh m o
+    ≡ None
 none_fresh m now None late below = refl
 none_fresh m now (Some st) late below =
     let before : st.since < now = below in
     rw (stale m.disturbed (rebound_for m.rebound (reads_of st.call)) st.since (omega arith)) refl
 
 -- a handle is opened or closed now
-pub rebound_begun : (now : ℕ) (rebound : ℕ → ℕ) (k o : Option ℕ) → rebound_for (λ h. if is_handle k h then now else rebound h) o ≡ (if touches k o then now else rebound_for rebound o)
+pub rebound_begun : (now : ℕ) (rebound : ℕ → ℕ) (k o : Option ℕ) → rebound_for (λ h. if is_handle k h then now else rebound h) o
+    ≡ (if touches k o then now else rebound_for rebound o)
 rebound_begun now rebound None None = refl
 rebound_begun now rebound None (Some h) = refl
 rebound_begun now rebound (Some k) None = refl
@@ -58,22 +60,31 @@ none_left : (begun c : Call) (fresh : Bool) → rebinds begun c ≡ true → Non
 none_left begun c true is = rw is refl
 none_left begun c false is = refl
 
-all_left : (begun c : Call) (fresh : Bool) → rebinds begun c ≡ false → (if fresh then Some c else None) ≡ without begun (if fresh then Some c else None)
+all_left : (begun c : Call) (fresh : Bool) → rebinds begun c ≡ false → (if fresh then Some c else None)
+    ≡ without begun (if fresh then Some c else None)
 all_left begun c true is = rw is refl
 all_left begun c false is = refl
 
 -- what a call that begins leaves of one that stands
 pub fresh_left : (m : Marks) (now : ℕ) (begun : Call) (o : Option Stood) → IfSome o (λ (st : Stood). st.since < now)
-    → if_fresh (record { disturbed = m.disturbed; rebound = λ h. if is_handle (rebound_by begun) h then now else m.rebound h; standing = m.standing; told = m.told }) o ≡ without begun (if_fresh m o)
+    → if_fresh (record {
+      disturbed = m.disturbed;
+      rebound = λ h. if is_handle (rebound_by begun) h then now else m.rebound h;
+      standing =
+          m.standing;
+      told = m.told;
+    }) o ≡ without begun (if_fresh m o)
 fresh_left m now begun None below = refl
-fresh_left m now begun (Some st) below = rw (rebound_begun now m.rebound (rebound_by begun) (reads_of st.call)) (by (touches (rebound_by begun) (reads_of st.call)) (rebinds_is begun st.call)) where
-  late : st.since < now
-  late = below
+fresh_left m now begun (Some st) below = rw (rebound_begun now m.rebound (rebound_by begun) (reads_of st.call))
+    (by (touches (rebound_by begun) (reads_of st.call)) (rebinds_is begun st.call)) where
+      late : st.since < now
+      late = below
 
-  by : (t : Bool) → rebinds begun st.call ≡ t
-      → (if nat_lt m.disturbed st.since && nat_lt (if t then now else rebound_for m.rebound (reads_of st.call)) st.since then Some st.call else None) ≡ without begun (if is_fresh m st.call st.since then Some st.call else None)
-  by true is = rw (stale_after m.disturbed now st.since (omega (arith, late))) (none_left begun st.call (is_fresh m st.call st.since) is)
-  by false is = all_left begun st.call (is_fresh m st.call st.since) is
+      by : (t : Bool) → rebinds begun st.call ≡ t
+          → (if nat_lt m.disturbed st.since && nat_lt (if t then now else rebound_for m.rebound (reads_of st.call)) st.since then Some st.call
+          else None) ≡ without begun (if is_fresh m st.call st.since then Some st.call else None)
+      by true is = rw (stale_after m.disturbed now st.since (omega (arith, late))) (none_left begun st.call (is_fresh m st.call st.since) is)
+      by false is = all_left begun st.call (is_fresh m st.call st.since) is
 
 -- ---- marks that are alike
 

@@ -8,8 +8,8 @@ use Rattle.std.proofs.lemmas.Bool.{eqb-true}
 use Rattle.std.proofs.lemmas.Bool.Decides.{nat_tests}
 use Rattle.lu_msg.specs.declared.calls.Call.{Call}
 use Rattle.lu_msg.specs.declared.calls.Call.TheVariants as call
-use Rattle.lu_laws.specs.Words.Repeats.{same_path, same_reading, rebinds}
-use Rattle.lu_laws.proofs.Tests.{first_of}
+use Rattle.lu_spec_laws.specs.Words.Repeats.{same_path, same_reading, rebinds}
+use Rattle.lu_spec_laws.proofs.Tests.{first_of}
 use Rattle.lu_judge_silent.specs.declared.readings.Reading.{Reading}
 use Rattle.lu_judge_silent.specs.declared.readings.Reading.TheVariants.{Lookup, Stat, List as Names, Layout, Read}
 use Rattle.lu_judge_silent.specs.Readings.{asks, same_question, is_reading, reads_of, rebound_by}
@@ -99,7 +99,8 @@ reads_same (Names a) _ e = refl
 reads_same (Layout a) (call.Read k start number) e = absurd (cc)
 reads_same (Layout a) _ e = refl
 
-pub rebinds_same : (begun : Call) (q : Reading) (k : Call) → same_reading (asks q) k ≡ true → rebinds begun k ≡ touches (rebound_by begun) (reads_of (asks q))
+pub rebinds_same : (begun : Call) (q : Reading) (k : Call) → same_reading (asks q) k ≡ true → rebinds begun k
+    ≡ touches (rebound_by begun) (reads_of (asks q))
 rebinds_same begun q k e = rebinds_is begun k ∙ ap (λ (o : Option ℕ). touches (rebound_by begun) o) (reads_same q k e)
 
 -- a call that isn't a reading is the same as none

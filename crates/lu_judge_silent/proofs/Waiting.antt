@@ -10,13 +10,13 @@ use Rattle.lu_base.specs.declared.ids.At.{At}
 use Rattle.lu_base.specs.declared.ids.Who.{Who}
 use Rattle.lu_msg.specs.declared.messages.Message.{Message}
 use Rattle.lu_msg.specs.declared.messages.Message.TheVariants.{Up, Ready}
-use Rattle.lu_machine.specs.Tree.{same_life}
+use Rattle.lu_spec_machine.specs.Tree.{same_life}
 use Rattle.lu_trace.specs.declared.entries.Entry.TheVariants.{Take}
-use Rattle.lu_laws.specs.Words.Pasts.{Past}
-use Rattle.lu_laws.specs.Words.Lives.{is_by}
-use Rattle.lu_laws.specs.Words.Sends.{Sending, sending}
-use Rattle.lu_laws.specs.Words.Repeats.{unready_with, unready}
-use Rattle.lu_laws.proofs.Tests.{first_of, rest_of, itself, life_is}
+use Rattle.lu_spec_laws.specs.Words.Pasts.{Past}
+use Rattle.lu_spec_laws.specs.Words.Lives.{is_by}
+use Rattle.lu_spec_laws.specs.Words.Sends.{Sending, sending}
+use Rattle.lu_spec_laws.specs.Words.Repeats.{unready_with, unready}
+use Rattle.lu_spec_laws.proofs.Tests.{first_of, rest_of, itself, life_is}
 use Rattle.lu_judge_silent.specs.declared.ups.Ups.{Ups}
 use Rattle.lu_judge_silent.specs.Tables.{is_waiting}
 use Rattle.lu_judge_silent.specs.Shown.{is_up, ShowsUps}
@@ -35,14 +35,20 @@ removed false old = refl
 
 -- a boot that is ready keeps all or none of one boot
 one_boot : (t boot : ℕ) (up other : ℕ × ℕ) → is_up up other ≡ true → not (other.0 == t && other.1 == boot) ≡ not (t == up.0 && boot == up.1)
-one_boot t boot up other e = rw (eqb-true other.0 up.0 (first_of (other.0 == up.0) (other.1 == up.1) e), eqb-true other.1 up.1 (rest_of (other.0 == up.0) (other.1 == up.1) e), eq_turned up.0 t, eq_turned up.1 boot) refl
+one_boot t boot up other e = rw (
+  eqb-true other.0 up.0 (first_of (other.0 == up.0) (other.1 == up.1) e),
+  eqb-true other.1 up.1 (rest_of (other.0 == up.0) (other.1 == up.1) e),
+  eq_turned up.0 t,
+  eq_turned up.1 boot,
+) refl
 
 pub waits_is : (own : Bool) (from : Node) (message : Message) (up : ℕ × ℕ) (old : List (ℕ × ℕ))
     → waits_after own from message up (list_any (is_up up) old) ≡ list_any (is_up up) (if own then unready_with from message old else old)
 waits_is true (Target t) (Up boot) up old = added (t == up.0 && boot == up.1) (list_any (is_up up) old)
 waits_is true (Target t) (Ready who boot committed) up old =
     removed (t == up.0 && boot == up.1) (list_any (is_up up) old)
-    ∙ sym (any-filter_same (is_up up) (λ other. not (other.0 == t && other.1 == boot)) (not (t == up.0 && boot == up.1)) (one_boot t boot up) old)
+    ∙ sym (any-filter_same (is_up up) (λ other. not (other.0 == t && other.1 == boot)) (not (t == up.0 && boot == up.1))
+    (one_boot t boot up) old)
 waits_is false (Target t) (Up boot) up old = refl
 waits_is false (Target t) (Ready who boot committed) up old = refl
 waits_is true (Target t) _ up old = refl
@@ -50,7 +56,8 @@ waits_is false (Target t) _ up old = refl
 waits_is true (Client c) _ up old = refl
 waits_is false (Client c) _ up old = refl
 
-pub ups_taken : (t n : Ups) (who : Who) (past : Past) (at : At) (number : ℕ) (s : Sending) → ((w : Who) → is_by w past at.node ≡ same_life who w) → sending past number ≡ Some s → ShowsUps t past
+pub ups_taken : (t n : Ups) (who : Who) (past : Past) (at : At) (number : ℕ) (s : Sending)
+    → ((w : Who) → is_by w past at.node ≡ same_life who w) → sending past number ≡ Some s → ShowsUps t past
     → ((w : Who) (up : ℕ × ℕ) → is_waiting n w up ≡ waits_after (same_life who w) s.from s.message up (is_waiting t w up))
     → ShowsUps n (record { at = at; entry = Take number } ∷ past)
 ups_taken t n who past at number s own sent shown takes w up =
@@ -64,7 +71,8 @@ pub put_back : (t : Ups) (who w : Who) (up : ℕ × ℕ) (hit v after mid boots 
     → mid ≡ (if same_life who w then false else is_waiting t w up) → boots ≡ (if hit then v else old) → old ≡ is_waiting t who up
     → after ≡ (if same_life who w && hit then v else is_waiting t w up)
 put_back t who w up hit v after mid boots old a b c d = a ∙ by (same_life who w) refl b where
-  by : (own : Bool) → same_life who w ≡ own → mid ≡ (if own then false else is_waiting t w up) → (if own then boots else mid) ≡ (if own && hit then v else is_waiting t w up)
+  by : (own : Bool) → same_life who w ≡ own → mid ≡ (if own then false else is_waiting t w up) → (if own then boots else mid)
+      ≡ (if own && hit then v else is_waiting t w up)
   by true e b = c ∙ ap (λ (o : Bool). if hit then v else o) (d ∙ ap (λ (one : Who). is_waiting t one up) (life_is who w e))
   by false e b = b
 
@@ -75,16 +83,21 @@ is_itself up = rw (itself up.0, itself up.1) refl
 
 pub none_waits : (list : List (ℕ × ℕ)) → ((up : ℕ × ℕ) → false ≡ list_any (is_up up) list) → true ≡ (length list == 0)
 none_waits [] none = refl
-none_waits (up ∷ list) none = let so : false ≡ (true || list_any (is_up up) list) = none up ∙ ap (λ (b : Bool). b || list_any (is_up up) list) (is_itself up) in absurd (cc)
+none_waits (up ∷ list) none = let so : false ≡ (true || list_any (is_up up) list) = none up
+    ∙ ap (λ (b : Bool). b || list_any (is_up up) list) (is_itself up) in absurd (cc)
 
-pub some_wait : (keys list : List (ℕ × ℕ)) (r : Bool) → ((up : ℕ × ℕ) → list_any (λ (k : ℕ × ℕ). up.0 == k.0 && up.1 == k.1) keys ≡ list_any (is_up up) list)
+pub some_wait : (keys list : List (ℕ × ℕ)) (r : Bool) → ((up : ℕ × ℕ) → list_any (λ (k : ℕ × ℕ). up.0 == k.0 && up.1 == k.1) keys
+    ≡ list_any (is_up up) list)
     → (IsTrue r ↔ (length keys ≡ 0)) → r ≡ (length list == 0)
 some_wait [] [] r same empty = empty.1 refl
 some_wait [] (up ∷ list) r same empty =
-    let so : false ≡ (true || list_any (is_up up) list) = same up ∙ ap (λ (b : Bool). b || list_any (is_up up) list) (is_itself up) in absurd (cc)
+    let so : false ≡ (true || list_any (is_up up) list) = same up ∙ ap (λ (b : Bool). b || list_any (is_up up) list) (is_itself up)
+    in absurd (cc)
 some_wait (key ∷ keys) [] r same empty =
     let mine : (key.0 == key.0 && key.1 == key.1) ≡ true = is_itself key in
-    let so : (true || list_any (λ (k : ℕ × ℕ). key.0 == k.0 && key.1 == k.1) keys) ≡ false = ap (λ (b : Bool). b || list_any (λ (k : ℕ × ℕ). key.0 == k.0 && key.1 == k.1) keys) (sym mine) ∙ same key in
+    let so : (true || list_any (λ (k : ℕ × ℕ). key.0 == k.0 && key.1 == k.1) keys) ≡ false =
+    ap (λ (b : Bool). b || list_any (λ (k : ℕ × ℕ). key.0 == k.0 && key.1 == k.1) keys) (sym mine) ∙ same key in
     absurd (cc)
 some_wait (key ∷ keys) (up ∷ list) r same empty =
-    false_from_ne_true r (λ e. let none : length (key ∷ keys) ≡ 0 = empty.0 e in omega arith) ∙ sym (ne_eqb (length (up ∷ list)) 0 (λ none. omega arith))
+    false_from_ne_true r (λ e. let none : length (key ∷ keys) ≡ 0 = empty.0 e in omega arith)
+    ∙ sym (ne_eqb (length (up ∷ list)) 0 (λ none. omega arith))

@@ -7,13 +7,13 @@ use Rattle.lu_msg.specs.declared.calls.Call.{Call}
 use Rattle.lu_msg.specs.declared.messages.Message.{Message}
 use Rattle.lu_trace.specs.declared.entries.Line.{Line}
 use Rattle.lu_trace.specs.declared.entries.Entry.TheVariants.{Begin, Take, Drop, Told}
-use Rattle.lu_machine.specs.Tree.{same_life}
-use Rattle.lu_laws.specs.Words.Pasts.{Past}
-use Rattle.lu_laws.specs.Words.Lives.{is_by}
-use Rattle.lu_laws.specs.Words.Sends.{message_of}
-use Rattle.lu_laws.specs.Words.Repeats.{rebinds, disturbs, same_reading, unready, is_ready, known}
-use Rattle.lu_judge.specs.Ledgers.{ShowsLedger}
-use Rattle.lu_judge_held.specs.Shown.{ShowsHeldLocks}
+use Rattle.lu_spec_machine.specs.Tree.{same_life}
+use Rattle.lu_spec_laws.specs.Words.Pasts.{Past}
+use Rattle.lu_spec_laws.specs.Words.Lives.{is_by}
+use Rattle.lu_spec_laws.specs.Words.Sends.{message_of}
+use Rattle.lu_spec_laws.specs.Words.Repeats.{rebinds, disturbs, same_reading, unready, is_ready, known}
+use Rattle.lu_judge_pass.specs.Ledgers.{ShowsLedger}
+use Rattle.lu_judge_windows.specs.Shown.{ShowsHeldLocks}
 use Rattle.lu_judge_silent.specs.declared.readings.Reading.{Reading}
 use Rattle.lu_judge_silent.specs.declared.known.Known.{Known}
 use Rattle.lu_judge_silent.specs.declared.ups.Ups.{Ups}

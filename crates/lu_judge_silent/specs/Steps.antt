@@ -2,7 +2,7 @@
 use Rattle.std.specs.Prelude.{◌≡◌, ℕ, Bool, false, not, ◌==◌, ◌&&◌, if◌then◌else◌, Option, Some, None}
 use Rattle.lu_msg.specs.declared.answers.Answer.{Answer}
 use Rattle.lu_msg.specs.declared.calls.Call.{Call}
-use Rattle.lu_laws.specs.Words.Repeats.{same_reading, is_error}
+use Rattle.lu_spec_laws.specs.Words.Repeats.{same_reading, is_error}
 use Rattle.lu_judge_silent.specs.declared.readings.Reading.{Reading}
 use Rattle.lu_judge_silent.specs.Readings.{asks, rebound_by}
 use Rattle.lu_judge_silent.specs.Tables.{Marks}

@@ -5,7 +5,7 @@ use Rattle.std.specs.HashMap.{get, get_by}
 use Rattle.std.specs.HashSet.{HashSet, contains_by}
 use Rattle.lu_base.specs.declared.ids.Who.{Who}
 use Rattle.lu_msg.specs.declared.calls.Call.{Call}
-use Rattle.lu_machine.specs.Tree.{same_life}
+use Rattle.lu_spec_machine.specs.Tree.{same_life}
 use Rattle.lu_judge_silent.specs.declared.readings.Reading.{Reading}
 use Rattle.lu_judge_silent.specs.declared.stamps.Stamps.{Stamps}
 use Rattle.lu_judge_silent.specs.declared.known.Known.{Known}

@@ -1,7 +1,7 @@
 //! Calls that change nothing and whose answers a life can know.
 
 ghost use Rattle.std.specs.Prelude.{◌≡◌, false, Some, IfSome, IfNone};
-ghost use Rattle.lu_laws.specs.Words.Repeats.{is_error, disturbs};
+ghost use Rattle.lu_spec_laws.specs.Words.Repeats.{is_error, disturbs};
 ghost use Rattle.lu_judge_silent.specs.Readings.{asks, is_reading, reads_of, rebound_by};
 
 use lu_base::Path;

@@ -2,21 +2,21 @@
 
 ghost use Rattle.std.specs.Prelude.{◌≡◌, ◌<◌, ◌^◌, [], length, reverse, Some, None, IfOk, IsTrue, ◌↔◌};
 ghost use Rattle.lu_trace.specs.WellFormed.{IsWellFormed};
-ghost use Rattle.lu_laws.specs.Words.Pasts.{Past};
-ghost use Rattle.lu_laws.specs.Words.Lives.{who_is};
-ghost use Rattle.lu_laws.specs.Words.Repeats.{is_repeat};
-ghost use Rattle.lu_laws.specs.Holds.{Holds};
-ghost use Rattle.lu_laws.specs.Laws.Messages.{Messages};
-ghost use Rattle.lu_laws.specs.Laws.Silent.{Silent as SilentLaw, BegunBy, is_told_silently};
-ghost use Rattle.lu_judge.specs.Firsts.{IsFirst};
-ghost use Rattle.lu_judge.specs.Places.{InOrder, Placed, turn_of};
+ghost use Rattle.lu_spec_laws.specs.Words.Pasts.{Past};
+ghost use Rattle.lu_spec_laws.specs.Words.Lives.{who_is};
+ghost use Rattle.lu_spec_laws.specs.Words.Repeats.{is_repeat};
+ghost use Rattle.lu_spec_laws.specs.Holds.{Holds};
+ghost use Rattle.lu_spec_laws.specs.Laws.Messages.{Messages};
+ghost use Rattle.lu_spec_laws.specs.Laws.Silent.{Silent as SilentLaw, BegunBy, is_told_silently};
+ghost use Rattle.lu_judge_pass.specs.Firsts.{IsFirst};
+ghost use Rattle.lu_judge_pass.specs.Places.{InOrder, Placed, turn_of};
 ghost use Rattle.lu_judge_silent.specs.Shown.{Shown};
 ghost use Rattle.lu_judge_silent.specs.Told.{settles};
 
 use super::known::Known;
 use lu_base::{At, Memory, Node};
-use lu_judge::{Judge, Ledger, first_broken, same_turn};
-use lu_judge_held::HeldLocks;
+use lu_judge_pass::{Judge, Ledger, first_broken, same_turn};
+use lu_judge_windows::HeldLocks;
 use lu_msg::Call;
 use lu_trace::{Entry, Line, Trace};
 use std::alloc::Global;

@@ -2,9 +2,9 @@
 
 ghost use Rattle.std.specs.Prelude.{◌≡◌, ℕ, true, false, ◌==◌, ◌&&◌, if◌then◌else◌, [], OnOk};
 ghost use Rattle.lu_base.specs.declared.ids.Who.{Who as SpecWho};
-ghost use Rattle.lu_laws.specs.Words.Pasts.{Past};
-ghost use Rattle.lu_laws.specs.Words.Repeats.{is_ready, unready};
-ghost use Rattle.lu_machine.specs.Tree.{same_life};
+ghost use Rattle.lu_spec_laws.specs.Words.Pasts.{Past};
+ghost use Rattle.lu_spec_laws.specs.Words.Repeats.{is_ready, unready};
+ghost use Rattle.lu_spec_machine.specs.Tree.{same_life};
 ghost use Rattle.lu_judge_silent.specs.Tables.{has_boot, is_waiting};
 ghost use Rattle.lu_judge_silent.specs.Shown.{ShowsUps};
 ghost use Rattle.lu_judge_silent.specs.Waits.{waits_after};

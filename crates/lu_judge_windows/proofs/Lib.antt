@@ -12,3 +12,8 @@ pub mod SilentMessages
 pub mod SlotLines
 pub mod Tests
 pub mod Words
+pub mod Keys
+pub mod Names
+pub mod Opposed
+pub mod Shows
+pub mod HeldTests

@@ -4,7 +4,7 @@ use Rattle.std.specs.Prelude.{◌==◌, ◌&&◌, ◌||◌, not, if◌then◌els
 use Rattle.std.specs.List.{list_any}
 use Rattle.std.proofs.lemmas.Bool.{eqb-true, eq-eqb}
 use Rattle.lu_base.specs.declared.ids.Who.{Who}
-use Rattle.lu_machine.specs.Tree.{same_life}
+use Rattle.lu_spec_machine.specs.Tree.{same_life}
 
 -- ---- keys
 
@@ -20,7 +20,8 @@ same_who a b c d p q = rw (p, q) refl
 pub at_life : (P : Who → Bool → Type 0) (u w : Who) → P u true → (same_life u w ≡ false → P w false) → P w (same_life u w)
 at_life P u w here there = by (u.client == w.client) (u.life == w.life) refl refl where
   by : (a b : Bool) → (u.client == w.client) ≡ a → (u.life == w.life) ≡ b → P w (a && b)
-  by true true c l = subst (λ (v : Who). P v true) (same_who u.client u.life w.client w.life (eqb-true u.client w.client c) (eqb-true u.life w.life l)) here
+  by true true c l = subst (λ (v : Who). P v true) (same_who u.client u.life w.client w.life (eqb-true u.client w.client c)
+      (eqb-true u.life w.life l)) here
   by true false c l = there (rw (c, l) refl)
   by false b c l = there (rw c refl)
 
@@ -57,7 +58,8 @@ pub put_known : (a b d o : Bool) → (if a && (b && d) then true else o) ≡ (((
 put_known true b d o = put_test (b && d) o
 put_known false b d o = refl
 
-pub joined_put : (a b new mid old notion : Bool) → new ≡ (if a && b then true else mid) → old ≡ notion → mid ≡ old → new ≡ ((b && a) || notion)
+pub joined_put : (a b new mid old notion : Bool) → new ≡ (if a && b then true else mid) → old ≡ notion → mid ≡ old → new
+    ≡ ((b && a) || notion)
 joined_put a b new mid old notion put shown same = put ∙ ap (λ (o : Bool). if a && b then true else o) (same ∙ shown) ∙ put_both a b notion
 
 -- what was known so far, with one more
@@ -90,7 +92,8 @@ module _ {A : Type 0} where
     crossed false false false d = refl
 
   -- an item is put in front of the list of one key
-  pub any_put : (p : A → Bool) (here : Bool) (x : A) (xs : List A) (new mid old : Bool) → new ≡ (if here && p x then true else mid) → old ≡ list_any p xs → mid ≡ old
+  pub any_put : (p : A → Bool) (here : Bool) (x : A) (xs : List A) (new mid old : Bool) → new ≡ (if here && p x then true else mid) → old
+      ≡ list_any p xs → mid ≡ old
       → new ≡ list_any p (if here then x ∷ xs else xs)
   any_put p here x xs new mid old put shown same = put ∙ ap (λ (o : Bool). if here && p x then true else o) (same ∙ shown) ∙ by here where
     by : (here : Bool) → (if here && p x then true else list_any p xs) ≡ list_any p (if here then x ∷ xs else xs)

@@ -4,8 +4,8 @@ use Rattle.std.specs.Option.{option_map_or}
 use Rattle.std.specs.HashMap.{get_by}
 use Rattle.std.specs.HashSet.{contains_by}
 use Rattle.lu_base.specs.declared.ids.Who.{Who}
-use Rattle.lu_laws.specs.Words.Pasts.{Past}
-use Rattle.lu_laws.specs.Words.Slots.{has_joined, joined_lives}
+use Rattle.lu_spec_laws.specs.Words.Pasts.{Past}
+use Rattle.lu_spec_laws.specs.Words.Slots.{has_joined, joined_lives}
 use Rattle.lu_judge_windows.specs.declared.joins.Joins.{Joins}
 
 abbrev pub has_joined_in : Joins → ℕ → Who → Bool

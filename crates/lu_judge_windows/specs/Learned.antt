@@ -2,8 +2,8 @@
 use Rattle.std.specs.Prelude.{◌≡◌, ℕ, Bool, ◌==◌, ◌&&◌}
 use Rattle.std.specs.HashSet.{contains_by}
 use Rattle.lu_base.specs.declared.ids.Who.{Who}
-use Rattle.lu_laws.specs.Words.Pasts.{Past}
-use Rattle.lu_laws.specs.Words.Learned.{heard_number, saw}
+use Rattle.lu_spec_laws.specs.Words.Pasts.{Past}
+use Rattle.lu_spec_laws.specs.Words.Learned.{heard_number, saw}
 use Rattle.lu_judge_windows.specs.declared.learned.Known.{Known}
 use Rattle.lu_judge_windows.specs.declared.learned.Learned.{Learned}
 

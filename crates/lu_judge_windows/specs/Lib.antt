@@ -10,3 +10,5 @@ pub mod Marks
 pub mod Offers
 pub mod Transactions
 pub mod Windows
+pub mod Lists
+pub mod Shown

@@ -4,9 +4,9 @@ use Rattle.std.specs.List.{list_any}
 use Rattle.std.specs.HashMap.{get_by}
 use Rattle.std.specs.HashSet.{contains_by}
 use Rattle.lu_base.specs.declared.ids.Node.TheVariants.{Target}
-use Rattle.lu_laws.specs.Words.Pasts.{Past}
-use Rattle.lu_laws.specs.Words.Scopes.{any_in}
-use Rattle.lu_laws.specs.Words.Lost.{Loss, losses, is_among, is_fail}
+use Rattle.lu_spec_laws.specs.Words.Pasts.{Past}
+use Rattle.lu_spec_laws.specs.Words.Scopes.{any_in}
+use Rattle.lu_spec_laws.specs.Words.Lost.{Loss, losses, is_among, is_fail}
 use Rattle.lu_judge_windows.specs.declared.losses.Losses.{Losses}
 
 -- the stamp of the turn that lost this number last
@@ -33,5 +33,7 @@ abbrev pub loses_in : (ℕ → Bool) → ℕ → Loss → Bool
 loses_in test n x = test x.at.stamp.0 && is_among x.numbers n
 
 pub record ShowsLosses (t : Losses) (past : Past) : Type 0 where
-  pub failed : (target stamp : ℕ) → has_failed t target stamp ≡ any_in is_fail (record { stamp = record { 0 = stamp }; node = Target target }) past
-  pub lost : (target n : ℕ) (test : ℕ → Bool) → passes test (has_failed t target) (lost_turn t target n) ≡ list_any (loses_in test n) (losses target past)
+  pub failed : (target stamp : ℕ) → has_failed t target stamp ≡ any_in is_fail
+      (record { stamp = record { 0 = stamp }; node = Target target }) past
+  pub lost : (target n : ℕ) (test : ℕ → Bool) → passes test (has_failed t target) (lost_turn t target n)
+      ≡ list_any (loses_in test n) (losses target past)

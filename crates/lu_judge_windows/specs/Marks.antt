@@ -3,8 +3,8 @@ use Rattle.std.specs.Prelude.{◌≡◌, ℕ, ◌==◌, max, true, false, unwrap
 use Rattle.std.specs.HashMap.{get_by}
 use Rattle.lu_trace.specs.declared.entries.Entry.{Entry}
 use Rattle.lu_trace.specs.declared.entries.Entry.TheVariants.{Txn, Commit, Crash, Boot, Close}
-use Rattle.lu_laws.specs.Words.Pasts.{Past}
-use Rattle.lu_laws.specs.Words.Boots.{boot, committed, greatest, is_recovering}
+use Rattle.lu_spec_laws.specs.Words.Pasts.{Past}
+use Rattle.lu_spec_laws.specs.Words.Boots.{boot, committed, greatest, is_recovering}
 use Rattle.lu_judge_windows.specs.declared.marks.Mark.{Mark}
 use Rattle.lu_judge_windows.specs.declared.marks.Marks.{Marks}
 

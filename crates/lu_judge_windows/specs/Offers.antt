@@ -2,9 +2,9 @@
 use Rattle.std.specs.Prelude.{◌≡◌, ℕ, ◌==◌, Option, Some, None, List, []}
 use Rattle.std.specs.HashMap.{get_by}
 use Rattle.lu_msg.specs.declared.messages.Message.{Message}
-use Rattle.lu_laws.specs.Words.Pasts.{Past}
-use Rattle.lu_laws.specs.Words.Boots.{boot}
-use Rattle.lu_laws.specs.Words.Handed.{handed}
+use Rattle.lu_spec_laws.specs.Words.Pasts.{Past}
+use Rattle.lu_spec_laws.specs.Words.Boots.{boot}
+use Rattle.lu_spec_laws.specs.Words.Handed.{handed}
 use Rattle.lu_judge_windows.specs.declared.handed.Handed.{Handed}
 use Rattle.lu_judge_windows.specs.declared.offers.Offers.{Offers}
 use Rattle.lu_judge_windows.specs.Handed.{ShowsHanded}

@@ -4,8 +4,8 @@ use Rattle.std.specs.List.{list_any}
 use Rattle.std.specs.Option.{option_map_or}
 use Rattle.std.specs.HashMap.{get_by}
 use Rattle.std.specs.HashSet.{contains_by}
-use Rattle.lu_laws.specs.Words.Pasts.{Past}
-use Rattle.lu_laws.specs.Words.Lost.{Transaction, transactions}
+use Rattle.lu_spec_laws.specs.Words.Pasts.{Past}
+use Rattle.lu_spec_laws.specs.Words.Lost.{Transaction, transactions}
 use Rattle.lu_judge_windows.specs.declared.transactions.Done.{Done}
 use Rattle.lu_judge_windows.specs.declared.transactions.Transactions.{Transactions}
 

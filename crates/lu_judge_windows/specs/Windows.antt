@@ -1,5 +1,5 @@
 -- The tables of boots, commits and recovery windows show a past.
-use Rattle.lu_laws.specs.Words.Pasts.{Past}
+use Rattle.lu_spec_laws.specs.Words.Pasts.{Past}
 use Rattle.lu_judge_windows.specs.declared.windows.Windows.{Windows}
 use Rattle.lu_judge_windows.specs.Marks.{ShowsMarks}
 use Rattle.lu_judge_windows.specs.Joins.{ShowsJoins}

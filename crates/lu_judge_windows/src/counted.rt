@@ -2,7 +2,7 @@
 
 ghost use Rattle.std.specs.Prelude.{◌≡◌, ℕ, ◌+◌, ◌==◌, ◌&&◌, ◌||◌, not, false, nat_le, if◌then◌else◌, IfOk, OnOk};
 ghost use Rattle.lu_base.specs.declared.ids.Who.{Who};
-ghost use Rattle.lu_machine.specs.Tree.{same_life};
+ghost use Rattle.lu_spec_machine.specs.Tree.{same_life};
 ghost use Rattle.lu_judge_windows.specs.Bounds.{IsBounded};
 
 use lu_base::{Memory, Who};

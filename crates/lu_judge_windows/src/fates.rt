@@ -2,7 +2,7 @@
 
 ghost use Rattle.std.specs.Prelude.{◌≡◌, ℕ, List, [], ◌∷◌, OnOk};
 ghost use Rattle.std.specs.List.{list_any};
-ghost use Rattle.lu_laws.specs.Words.Lost.{is_among};
+ghost use Rattle.lu_spec_laws.specs.Words.Lost.{is_among};
 ghost use Rattle.lu_judge_windows.specs.Fates.{IsFate};
 
 use lu_base::{Memory, Numbers};

@@ -4,8 +4,8 @@ ghost use Rattle.std.specs.Prelude.{◌≡◌, ℕ, ◌+◌, ◌==◌, ◌&&◌,
 ghost use Rattle.lu_base.specs.declared.ids.Who.{Who};
 ghost use Rattle.lu_msg.specs.declared.messages.Message.{Message};
 ghost use Rattle.lu_msg.specs.declared.messages.Message.TheVariants as messages;
-ghost use Rattle.lu_machine.specs.Tree.{same_life};
-ghost use Rattle.lu_laws.specs.Words.Handed.{has_all};
+ghost use Rattle.lu_spec_machine.specs.Tree.{same_life};
+ghost use Rattle.lu_spec_laws.specs.Words.Handed.{has_all};
 ghost use Rattle.lu_judge_windows.specs.Counted.{has_member, count_of, is_within};
 ghost use Rattle.lu_judge_windows.specs.Handed.{is_back_in, has_newer_in, completes_in, ShowsHanded};
 

@@ -4,17 +4,17 @@ ghost use Rattle.std.specs.Prelude.{◌≡◌, ℕ, ◌==◌, ◌&&◌, ◌||◌
 ghost use Rattle.std.specs.List.{list_any};
 ghost use Rattle.lu_base.specs.declared.ids.Who.{Who};
 ghost use Rattle.lu_trace.specs.declared.entries.Line.{Line};
-ghost use Rattle.lu_laws.specs.Words.Pasts.{Past, is_target};
-ghost use Rattle.lu_machine.specs.Tree.{same_life};
-ghost use Rattle.lu_laws.specs.Words.Learned.{is_reply_to, is_grant_to, carries, names, lets_see};
-ghost use Rattle.lu_laws.specs.Laws.Messages.{Follows};
-ghost use Rattle.lu_judge.specs.Places.{Ordered};
-ghost use Rattle.lu_judge.specs.Ledgers.{ShowsLedger};
-ghost use Rattle.lu_judge.specs.Tables.{sending_of};
+ghost use Rattle.lu_spec_laws.specs.Words.Pasts.{Past, is_target};
+ghost use Rattle.lu_spec_machine.specs.Tree.{same_life};
+ghost use Rattle.lu_spec_laws.specs.Words.Learned.{is_reply_to, is_grant_to, carries, names, lets_see};
+ghost use Rattle.lu_spec_laws.specs.Laws.Messages.{Follows};
+ghost use Rattle.lu_judge_pass.specs.Places.{Ordered};
+ghost use Rattle.lu_judge_pass.specs.Ledgers.{ShowsLedger};
+ghost use Rattle.lu_judge_pass.specs.Tables.{sending_of};
 ghost use Rattle.lu_judge_windows.specs.Learned.{has_number, is_of, heard_in, saw_in, ShowsLearned};
 
 use lu_base::{Cookie, Memory, Node, Numbers, Who, Xid};
-use lu_judge::{Ledger, Sending, same_node};
+use lu_judge_pass::{Ledger, Sending, same_node};
 use lu_msg::{GrantNotice, Message, Reply};
 use lu_trace::{Entry, Line};
 use std::alloc::Global;

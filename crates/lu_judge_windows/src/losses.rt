@@ -1,7 +1,7 @@
 //! What the closes of the targets' recovery windows lost.
 
 ghost use Rattle.std.specs.Prelude.{◌≡◌, ℕ, ◌==◌, ◌&&◌, true, if◌then◌else◌, Some, [], ◌∷◌, OnOk};
-ghost use Rattle.lu_laws.specs.Words.Lost.{is_among};
+ghost use Rattle.lu_spec_laws.specs.Words.Lost.{is_among};
 ghost use Rattle.lu_judge_windows.specs.Losses.{lost_turn, has_failed, is_lost_in, ShowsLosses};
 
 use lu_base::{Memory, Numbers, Stamp};

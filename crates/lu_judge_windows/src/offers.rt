@@ -3,16 +3,16 @@
 ghost use Rattle.std.specs.Prelude.{◌≡◌, ℕ, ◌==◌, false, List, [], ◌∷◌, reverse, map, OnOk};
 ghost use Rattle.lu_msg.specs.declared.messages.Message.{Message};
 ghost use Rattle.lu_trace.specs.declared.entries.Line.{Line};
-ghost use Rattle.lu_laws.specs.Words.Pasts.{Past};
-ghost use Rattle.lu_laws.specs.Words.Boots.{boot};
-ghost use Rattle.lu_laws.specs.Words.Handed.{handed, has_all, has_newer, locks};
-ghost use Rattle.lu_judge.specs.Tables.{ShowsSendings};
+ghost use Rattle.lu_spec_laws.specs.Words.Pasts.{Past};
+ghost use Rattle.lu_spec_laws.specs.Words.Boots.{boot};
+ghost use Rattle.lu_spec_laws.specs.Words.Handed.{handed, has_all, has_newer, locks};
+ghost use Rattle.lu_judge_pass.specs.Tables.{ShowsSendings};
 ghost use Rattle.lu_judge_windows.specs.Marks.{ShowsMarks};
 
 use super::handed::Handed;
 use super::marks::Marks;
 use lu_base::{Memory, Node, Who};
-use lu_judge::Sendings;
+use lu_judge_pass::Sendings;
 use lu_msg::{LockReplay, Message};
 use lu_trace::{Entry, Line};
 use std::alloc::Global;

@@ -3,7 +3,7 @@
 ghost use Rattle.std.specs.Prelude.{◌≡◌, ℕ, ◌==◌, if◌then◌else◌, [], ◌∷◌, ◌++◌, map, OnOk};
 ghost use Rattle.std.specs.Option.{option_map_or};
 ghost use Rattle.lu_trace.specs.declared.entries.Line.{Line};
-ghost use Rattle.lu_laws.specs.Words.Pasts.{Past};
+ghost use Rattle.lu_spec_laws.specs.Words.Pasts.{Past};
 ghost use Rattle.lu_judge_windows.specs.Transactions.{transaction_of, has_transaction, transactions_in, ShowsTransactions};
 
 use super::slices::or_none;

@@ -1,16 +1,16 @@
 //! What closes lost in a whole trace.
 
 ghost use Rattle.std.specs.Prelude.{◌≡◌, reverse, IfOk};
-ghost use Rattle.lu_laws.specs.Words.Pasts.{Past};
-ghost use Rattle.lu_laws.specs.Words.Lost.{is_lost};
-ghost use Rattle.lu_laws.specs.Laws.Messages.{Messages};
-ghost use Rattle.lu_laws.specs.Holds.{Holds};
+ghost use Rattle.lu_spec_laws.specs.Words.Pasts.{Past};
+ghost use Rattle.lu_spec_laws.specs.Words.Lost.{is_lost};
+ghost use Rattle.lu_spec_laws.specs.Laws.Messages.{Messages};
+ghost use Rattle.lu_spec_laws.specs.Holds.{Holds};
 ghost use Rattle.lu_judge_windows.specs.Lost.{ShowsLost};
 
 use super::losses::Losses;
 use super::windows::Windows;
 use lu_base::Memory;
-use lu_judge::Ledger;
+use lu_judge_pass::Ledger;
 use lu_trace::Line;
 use std::alloc::Global;
 

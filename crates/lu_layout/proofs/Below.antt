@@ -7,7 +7,8 @@ use Rattle.std.proofs.lemmas.Bool.Decides.{eqb_tells}
 use Rattle.std.proofs.lemmas.Nat.{div-add-mod', le-div, div_below}
 use Rattle.lu_layout.specs.Raid0.{Raid0, stripe_of, offset_of, position_of, below_of}
 use Rattle.lu_layout.specs.Sound.{IsLayout}
-use Rattle.lu_layout.proofs.Places.{position_of-place, stripe_of-lt, stripe_of-position_of, position_of-rising, position_of-lt, offset-le-position_of}
+use Rattle.lu_layout.proofs.Places.{position_of-place, stripe_of-lt, stripe_of-position_of, position_of-rising, position_of-lt}
+use Rattle.lu_layout.proofs.Places.{offset-le-position_of}
 use Rattle.lu_layout.proofs.Units.{earlier_unit}
 
 -- m is the number of the offsets of a stripe whose position is below n
@@ -37,14 +38,16 @@ unfolding stripe_of
 unit_is l n = div-add-mod' (n / l.size) (length l.targets)
 
 -- where the units of a stripe with u < b are those before the unit of n, its offsets below n are those below b * size
-IsCount-units : (l : Raid0) (i n b : ℕ) → IsLayout l → ((u : ℕ) → u < b → u * length l.targets + i < n / l.size) → ((u : ℕ) → b ≤ u → n / l.size < u * length l.targets + i) → IsCount l i n (b * l.size)
+IsCount-units : (l : Raid0) (i n b : ℕ) → IsLayout l → ((u : ℕ) → u < b → u * length l.targets + i < n / l.size)
+    → ((u : ℕ) → b ≤ u → n / l.size < u * length l.targets + i) → IsCount l i n (b * l.size)
 IsCount-units l i n b good before after = record {
   counts = λ q. (
     (λ h. position_of-lt_unit l i q n good (before (q / l.size) (div_below q l.size b good.size.0 h))),
     (λ h. elim (cases_lt q (b * l.size)) [
       | inl less ↦ less
       | inr rest ↦
-          absurd (let past : n < position_of l i q = lt_unit-position_of l i q n good (after (q / l.size) (le-div b q l.size good.size.0 rest)) in omega arith)
+          absurd (let past : n < position_of l i q = lt_unit-position_of l i q n good
+          (after (q / l.size) (le-div b q l.size good.size.0 rest)) in omega arith)
     ]),
   );
 }
@@ -55,8 +58,10 @@ IsCount-before l i n good h =
     let unit : n / l.size / length l.targets * length l.targets + stripe_of l n ≡ n / l.size = unit_is l n in
     let lt : stripe_of l n < length l.targets = stripe_of-lt l n good in
     IsCount-units l i n (n / l.size / length l.targets + 1) good
-    (λ u less. let le : u * length l.targets ≤ n / l.size / length l.targets * length l.targets = mul-le-mul_right (length l.targets) (omega arith) in omega arith)
-    (λ u more. let le : (n / l.size / length l.targets + 1) * length l.targets ≤ u * length l.targets = mul-le-mul_right (length l.targets) more in omega (arith, add-mul (n / l.size / length l.targets) 1 (length l.targets)))
+    (λ u less. let le : u * length l.targets ≤ n / l.size / length l.targets * length l.targets =
+    mul-le-mul_right (length l.targets) (omega arith) in omega arith)
+    (λ u more. let le : (n / l.size / length l.targets + 1) * length l.targets ≤ u * length l.targets =
+    mul-le-mul_right (length l.targets) more in omega (arith, add-mul (n / l.size / length l.targets) 1 (length l.targets)))
 
 -- the stripe of n has the offsets below that of n
 IsCount-at : (l : Raid0) (n : ℕ) → IsLayout l → IsCount l (stripe_of l n) n (offset_of l n)
@@ -67,12 +72,15 @@ IsCount-at l n good = record {
 }
 
 -- a stripe after that of n has nothing of the round below n
-IsCount-after : (l : Raid0) (i n : ℕ) → IsLayout l → stripe_of l n < i → i < length l.targets → IsCount l i n (n / l.size / length l.targets * l.size)
+IsCount-after : (l : Raid0) (i n : ℕ) → IsLayout l → stripe_of l n < i → i < length l.targets
+    → IsCount l i n (n / l.size / length l.targets * l.size)
 IsCount-after l i n good h here =
     let unit : n / l.size / length l.targets * length l.targets + stripe_of l n ≡ n / l.size = unit_is l n in
     IsCount-units l i n (n / l.size / length l.targets) good
-    (λ u less. let le : (u + 1) * length l.targets ≤ n / l.size / length l.targets * length l.targets = mul-le-mul_right (length l.targets) (omega arith) in omega (arith, add-mul u 1 (length l.targets)))
-    (λ u more. let le : n / l.size / length l.targets * length l.targets ≤ u * length l.targets = mul-le-mul_right (length l.targets) more in omega arith)
+    (λ u less. let le : (u + 1) * length l.targets ≤ n / l.size / length l.targets * length l.targets =
+    mul-le-mul_right (length l.targets) (omega arith) in omega (arith, add-mul u 1 (length l.targets)))
+    (λ u more. let le : n / l.size / length l.targets * length l.targets ≤ u * length l.targets = mul-le-mul_right (length l.targets) more
+    in omega arith)
 
 -- there is one such number
 IsCount-one : (l : Raid0) (i n m w : ℕ) → IsCount l i n m → IsCount l i n w → m ≡ w
@@ -138,7 +146,8 @@ pub IsCount-is : (l : Raid0) (i n m : ℕ) → IsLayout l → i < length l.targe
 IsCount-is l i n m good here a = IsCount-one l i n m (below_of l i n) a (IsCount-below_of l i n good here)
 
 -- what `below` answers at each order of the stripe and that of n
-pub before_reached : (l : Raid0) (i n s o z : ℕ) → IsLayout l → z ≡ l.size → s ≡ stripe_of l n → o ≡ offset_of l n → i < s → IsCount l i n (o - n % z + z)
+pub before_reached : (l : Raid0) (i n s o z : ℕ) → IsLayout l → z ≡ l.size → s ≡ stripe_of l n → o ≡ offset_of l n → i < s
+    → IsCount l i n (o - n % z + z)
 unfolding offset_of
 before_reached l i n s o z good size stripe offset h =
     let less : i < stripe_of l n = omega arith in
@@ -150,7 +159,8 @@ before_reached l i n s o z good size stripe offset h =
 pub at_reached : (l : Raid0) (i n s o : ℕ) → IsLayout l → s ≡ stripe_of l n → o ≡ offset_of l n → i ≡ s → IsCount l i n o
 at_reached l i n s o good stripe offset h = rw (h, stripe, offset) (IsCount-at l n good)
 
-pub after_reached : (l : Raid0) (i n s o z : ℕ) → IsLayout l → z ≡ l.size → s ≡ stripe_of l n → o ≡ offset_of l n → s < i → i < length l.targets → IsCount l i n (o - n % z)
+pub after_reached : (l : Raid0) (i n s o z : ℕ) → IsLayout l → z ≡ l.size → s ≡ stripe_of l n → o ≡ offset_of l n → s < i
+    → i < length l.targets → IsCount l i n (o - n % z)
 unfolding offset_of
 after_reached l i n s o z good size stripe offset h here =
     let more : stripe_of l n < i = omega arith in

@@ -13,6 +13,7 @@ pub offset_of-fields : (a : Inside) (p : ℕ) → AreSlots a → p / a.unit / a.
 unfolding offset_of
 offset_of-fields a p h = ap (λ (k : ℕ). p / a.unit / k * a.unit + p % a.unit) (sym h.width)
 
-pub position_of-fields : (a : Inside) (i q : ℕ) → AreSlots a → (q / a.unit * a.width + i) * a.unit + q % a.unit ≡ position_of (raid0_of a) i q
+pub position_of-fields : (a : Inside) (i q : ℕ) → AreSlots a → (q / a.unit * a.width + i) * a.unit + q % a.unit
+    ≡ position_of (raid0_of a) i q
 unfolding position_of
 position_of-fields a i q h = ap (λ (k : ℕ). (q / a.unit * k + i) * a.unit + q % a.unit) (sym h.width)

@@ -7,7 +7,8 @@ use Rattle.std.proofs.lemmas.Bool.{cases_order}
 use Rattle.lu_layout.specs.Sound.{IsStripeSize, AreStripes, AreDistinct, HasRepeat}
 use Rattle.lu_layout.specs.Slots.{AreSlots}
 
-pub AreSlots-filled : (size : ℕ) (xs : List ℕ) → IsStripeSize size → AreStripes xs → AreSlots record { unit = size; width = length xs; slots = xs ++ drop (length xs) (replicate 8 0) }
+pub AreSlots-filled : (size : ℕ) (xs : List ℕ) → IsStripeSize size → AreStripes xs
+    → AreSlots record { unit = size; width = length xs; slots = xs ++ drop (length xs) (replicate 8 0) }
 AreSlots-filled size xs good stripes =
     let rest : List ℕ = drop (length xs) (replicate 8 0) in
     record {

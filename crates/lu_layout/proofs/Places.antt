@@ -54,12 +54,14 @@ position_of-lt l i q r good h =
           earlier_unit
           (q / l.size * length l.targets + i) l.size (q % l.size)
           (r / l.size * length l.targets + i) (r % l.size)
-          (let more : q / l.size * length l.targets < r / l.size * length l.targets = mul-lt-mul_of_pos_right before good.targets.0 in omega arith)
+          (let more : q / l.size * length l.targets < r / l.size * length l.targets = mul-lt-mul_of_pos_right before good.targets.0
+          in omega arith)
           (mod-lt q good.size.0)
       | inr rest ↦
           let same : q / l.size ≡ r / l.size = omega arith in
           let units : q / l.size * l.size ≡ r / l.size * l.size = ap (λ (u : ℕ). u * l.size) same in
-          let places : (q / l.size * length l.targets + i) * l.size ≡ (r / l.size * length l.targets + i) * l.size = ap (λ (u : ℕ). (u * length l.targets + i) * l.size) same in
+          let places : (q / l.size * length l.targets + i) * l.size ≡ (r / l.size * length l.targets + i) * l.size =
+          ap (λ (u : ℕ). (u * length l.targets + i) * l.size) same in
           omega arith
     ]
 

@@ -1,6 +1,7 @@
 -- Striping over objects (RAID0), as the Lustre Operations Manual has it under striping: a file is cut
 -- into units of the stripe size, and the units go to the stripes in turn, round after round.
-use Rattle.std.specs.Prelude.{◌≡◌, ℕ, zero, suc, ◌+◌, ◌-◌, ◌*◌, ◌/◌, ◌%◌, ◌<◌, ◌↔◌, ◌==◌, if◌then◌else◌, ◌⊎◌, max, List, [], ◌∷◌, length, slice_index}
+use Rattle.std.specs.Prelude.{◌≡◌, ℕ, zero, suc, ◌+◌, ◌-◌, ◌*◌, ◌/◌, ◌%◌, ◌<◌, ◌↔◌, ◌==◌, if◌then◌else◌, ◌⊎◌, max, List, [], ◌∷◌, length}
+use Rattle.std.specs.Prelude.{slice_index}
 
 -- what a caller sees of a layout: the stripe size in bytes, and the target of each stripe in order
 pub record Raid0 : Type 0 where

@@ -6,9 +6,8 @@ ghost use Rattle.std.specs.Cmp.Lexicographic.{pointwise, nat_list_eq_equiv};
 ghost use Rattle.lu_layout.specs.Raid0.{stripe_of, offset_of, position_of, below_of, file_size_of, IsFileSize};
 ghost use Rattle.lu_layout.specs.Sound.{IsStripeSize, IsBadSize, IsBadCount, AreStripes, HasRepeat, IsLayout};
 
-use std::error::Error;
-use std::fmt;
 use std::marker::Model;
+use thiserror::Error;
 
 /// The greatest number of stripes.
 const MOST_STRIPES: usize = 8;
@@ -20,24 +19,15 @@ const SIZE_GRANULE: u64 = 65536;
 const MOST_SIZE: u64 = 4294901760;
 
 /// Why there is no such layout. Nothing was made.
-#[derive(Clone, Copy, Debug, PartialEq, Eq)]
+#[derive(Clone, Copy, Debug, PartialEq, Eq, Error)]
 pub enum LayoutError {
     /// The stripe size is 0, no multiple of 65,536 or above 2^32 - 65,536.
+    #[error("bad stripe size")]
     BadSize,
     /// The size is good, but there are no stripes or more than eight, or a target stands twice.
+    #[error("bad stripes")]
     BadCount,
 }
-
-impl fmt::Display for LayoutError {
-    fn fmt<W: fmt::Write>(&self, f: &mut fmt::Formatter<W>) -> fmt::Result {
-        match self {
-            LayoutError::BadSize => write!(f, "bad stripe size"),
-            LayoutError::BadCount => write!(f, "bad stripes"),
-        }
-    }
-}
-
-impl Error for LayoutError {}
 
 /// A striped layout: a stripe size in bytes and one to eight stripes, each on a target of its own.
 ///

@@ -1,6 +1,7 @@
 -- What growth keeps: the granted extent holds the asked one, and conflicts with no lock that the ask doesn't
 -- conflict with.
-use Rattle.std.proofs.Common.{◌≡◌, ℕ, ◌+◌, ◌-◌, ◌<◌, ◌≤◌, Bool, true, false, ◌||◌, List, [], ◌∷◌, ◌++◌, refl, sym, ◌∙◌, ap, arith, min, max, map, filter, fold, nat_lt, IsTrue, length, take, get_or, subst}
+use Rattle.std.proofs.Common.{◌≡◌, ℕ, ◌+◌, ◌-◌, ◌<◌, ◌≤◌, Bool, true, false, ◌||◌, List, [], ◌∷◌, ◌++◌, refl, sym, ◌∙◌, ap, arith, min, max}
+use Rattle.std.proofs.Common.{map, filter, fold, nat_lt, IsTrue, length, take, get_or, subst}
 use Rattle.std.specs.List.{list_any}
 use Rattle.std.proofs.lemmas.List.{map-append, take_more}
 use Rattle.std.proofs.lemmas.List.Sums.{fold-append}

@@ -1,5 +1,6 @@
 -- The tests of meeting are what they stand for, and are symmetric.
-use Rattle.std.proofs.Common.{◌≡◌, ◌≢◌, ℕ, zero, suc, ◌*◌, ◌/◌, ◌%◌, ◌^◌, ◌<◌, ◌≤◌, Bool, true, false, not, ◌&&◌, IsTrue, ◌↔◌, nat_le, refl, arith, min, max, bit_and, ap, sym, ◌∙◌, ◌==◌}
+use Rattle.std.proofs.Common.{◌≡◌, ◌≢◌, ℕ, zero, suc, ◌*◌, ◌/◌, ◌%◌, ◌^◌, ◌<◌, ◌≤◌, Bool, true, false, not, ◌&&◌, IsTrue, ◌↔◌, nat_le, refl}
+use Rattle.std.proofs.Common.{arith, min, max, bit_and, ap, sym, ◌∙◌, ◌==◌}
 use Rattle.std.specs.Int.{bit_at, IsBitSet}
 use Rattle.std.proofs.Math.Nat.{max_comm, min_comm, pow-suc, pow-zero, one-mul, zero-mul}
 use Rattle.std.proofs.lemmas.Nat.{and_comm, and_assoc}

@@ -38,7 +38,7 @@ pub fn conflict(a: &Ask, b: &Ask) -> bool
 }
 
 /// Whether a lock of the list conflicts with this one.
-pub(crate) fn conflicts_with_any(ask: &Ask, locks: &[Ask]) -> bool
+pub fn conflicts_with_any(ask: &Ask, locks: &[Ask]) -> bool
     ensures { result ≡ conflicts_with_any ask.now locks.now }
 {
     locks.iter().any(|lock| conflict(ask, lock))

@@ -32,7 +32,22 @@ pub fn grow(ask: &Ask, granted: &[Ask], waiting: &[Ask]) -> Extent
     }
 }
 
-/// The same of a lock that asks for this extent.
+/// The lock as it is granted beside the other granted and waiting locks of its resource. The ends of what it asks for may
+/// stand in any order.
+pub fn granted_ask(ask: &Ask, granted: &[Ask], waiting: &[Ask]) -> Ask
+    ensures { result ≡ granted_ask ask.now granted.now waiting.now }
+{
+    match ask.policy {
+        Policy::Range(asked) => Ask {
+            who: ask.who,
+            mode: ask.mode,
+            policy: Policy::Range(extended(ask, asked, granted, waiting)),
+        },
+        Policy::Bits(_) => *ask,
+    }
+}
+
+/// The extent of a lock that asks for this one.
 fn extended(ask: &Ask, asked: Extent, granted: &[Ask], waiting: &[Ask]) -> Extent
     requires { ask.now.policy ≡ Policy.Range asked }
     ensures grown { result

@@ -6,6 +6,6 @@ mod conflicts;
 mod growth;
 mod modes;
 
-pub use conflicts::{conflict, extents_meet};
-pub use growth::grow;
+pub use conflicts::{conflict, conflicts_with_any, extents_meet};
+pub use growth::{granted_ask, grow};
 pub use modes::{compatible, serves};

@@ -1,10 +1,12 @@
 -- The locks that meet the guards of some parts are those of the guards' resources that do.
-use Rattle.std.proofs.Common.{◌≡◌, ℕ, ◌+◌, ◌<◌, length, take, drop, get_or, ◌&&◌, ◌||◌, Bool, true, false, not, cond, List, [], ◌∷◌, ◌++◌, map, filter, refl, sym, ◌∙◌, ap, subst, arith, IsPermutation}
+use Rattle.std.proofs.Common.{◌≡◌, ℕ, ◌+◌, ◌<◌, length, take, drop, get_or, ◌&&◌, ◌||◌, Bool, true, false, not, cond, List, [], ◌∷◌, ◌++◌}
+use Rattle.std.proofs.Common.{map, filter, refl, sym, ◌∙◌, ap, subst, arith, IsPermutation}
 use Rattle.std.specs.List.{list_any, AllByRecursion}
 use Rattle.std.proofs.lemmas.Bool.Decides.{nat_tests}
 use Rattle.std.proofs.lemmas.List.{map-append, append_assoc, take_more}
 use Rattle.std.proofs.lemmas.List.Folds.{list_any-append}
-use Rattle.std.proofs.lemmas.List.Sorted.{IsPermutation-refl, IsPermutation-trans, IsPermutation-append_right, IsPermutation-map, IsPermutation-filter_both}
+use Rattle.std.proofs.lemmas.List.Sorted.{IsPermutation-refl, IsPermutation-trans, IsPermutation-append_right, IsPermutation-map}
+use Rattle.std.proofs.lemmas.List.Sorted.{IsPermutation-filter_both}
 use Rattle.lu_base.specs.declared.ids.Cookie.{Cookie}
 use Rattle.lu_base.specs.declared.ids.Who.{Who}
 use Rattle.lu_base.specs.declared.locks.Lock.{Lock}
@@ -33,21 +35,25 @@ abbrev by_resource : List Resource → List Lock → List Lock
 by_resource [] locks = []
 by_resource (r ∷ rs) locks = filter (on r) locks ++ by_resource rs locks
 
-others_listed : (r : Resource) (rs : List Resource) (locks : List Lock) → Listed (r ∷ rs) locks → Listed rs (filter (λ lock. not (on r lock)) locks)
+others_listed : (r : Resource) (rs : List Resource) (locks : List Lock) → Listed (r ∷ rs) locks
+    → Listed rs (filter (λ lock. not (on r lock)) locks)
 others_listed r rs [] h = tt
 others_listed r rs (x ∷ locks) h = by (on r x) refl (others_listed r rs locks h.1) where
-  by : (b : Bool) → on r x ≡ b → Listed rs (filter (λ lock. not (on r lock)) locks) → Listed rs (cond (not b) (x ∷ filter (λ lock. not (on r lock)) locks) (filter (λ lock. not (on r lock)) locks))
+  by : (b : Bool) → on r x ≡ b → Listed rs (filter (λ lock. not (on r lock)) locks)
+      → Listed rs (cond (not b) (x ∷ filter (λ lock. not (on r lock)) locks) (filter (λ lock. not (on r lock)) locks))
   by true e rest = rest
   by false e rest = (sym (ap (λ v. v || is_listed x.resource rs) e) ∙ h.0, rest)
 
 -- those on a second resource are among those that aren't on the first
-other_kept : (r s : Resource) → same_resource r s ≡ false → (locks : List Lock) → filter (on s) (filter (λ lock. not (on r lock)) locks) ≡ filter (on s) locks
+other_kept : (r s : Resource) → same_resource r s ≡ false → (locks : List Lock) → filter (on s) (filter (λ lock. not (on r lock)) locks)
+    ≡ filter (on s) locks
 other_kept r s differ [] = refl
 other_kept r s differ (x ∷ locks) = by (on r x) refl (on s x) refl (other_kept r s differ locks) where
   others : List Lock
   others = filter (λ lock. not (on r lock)) locks
 
-  by : (b : Bool) → on r x ≡ b → (v : Bool) → on s x ≡ v → filter (on s) others ≡ filter (on s) locks → filter (on s) (cond (not b) (x ∷ others) others) ≡ cond v (x ∷ filter (on s) locks) (filter (on s) locks)
+  by : (b : Bool) → on r x ≡ b → (v : Bool) → on s x ≡ v → filter (on s) others ≡ filter (on s) locks
+      → filter (on s) (cond (not b) (x ∷ others) others) ≡ cond v (x ∷ filter (on s) locks) (filter (on s) locks)
   by true e true f rest = absurd (differs (sym (apart e f) ∙ differ)) where
     apart : on r x ≡ true → on s x ≡ true → same_resource r s ≡ true
     apart p q = grind (arith, nat_tests, p, q)
@@ -58,7 +64,8 @@ other_kept r s differ (x ∷ locks) = by (on r x) refl (on s x) refl (other_kept
   by false e true f rest = ap (λ b. cond b (x ∷ filter (on s) others) (filter (on s) others)) f ∙ ap (λ ys. x ∷ ys) rest
   by false e false f rest = ap (λ b. cond b (x ∷ filter (on s) others) (filter (on s) others)) f ∙ rest
 
-others_kept : (r : Resource) (rs : List Resource) → AllByRecursion (λ s. same_resource r s ≡ false) rs → (locks : List Lock) → by_resource rs (filter (λ lock. not (on r lock)) locks) ≡ by_resource rs locks
+others_kept : (r : Resource) (rs : List Resource) → AllByRecursion (λ s. same_resource r s ≡ false) rs → (locks : List Lock)
+    → by_resource rs (filter (λ lock. not (on r lock)) locks) ≡ by_resource rs locks
 others_kept r [] apart locks = refl
 others_kept r (s ∷ rs) apart locks = λ i. other_kept r s apart.0 locks i ++ others_kept r rs apart.1 locks i
 
@@ -81,7 +88,8 @@ sorted_out (r ∷ rs) distinct locks listed =
 -- ---- those of one queue
 
 passing_on : (test : Lock → Bool) (r : Resource) (locks : List Lock) →
-    map (λ lock. lock.cookie) (filter (on r) (filter test locks)) ≡ map (λ lock. lock.cookie) (filter (λ lock. test (lock_on r lock)) (grants_on r locks))
+    map (λ lock. lock.cookie) (filter (on r) (filter test locks))
+    ≡ map (λ lock. lock.cookie) (filter (λ lock. test (lock_on r lock)) (grants_on r locks))
 passing_on test r [] = refl
 passing_on test r (x ∷ locks) = by (on r x) refl (test x) refl (passing_on test r locks) where
   cookies : List Lock → List Cookie
@@ -91,35 +99,43 @@ passing_on test r (x ∷ locks) = by (on r x) refl (test x) refl (passing_on tes
   grants xs = map (λ lock. lock.cookie) (filter (λ lock. test (lock_on r lock)) xs)
 
   by : (b : Bool) → on r x ≡ b → (v : Bool) → test x ≡ v → cookies (filter (on r) (filter test locks)) ≡ grants (grants_on r locks) →
-      cookies (filter (on r) (cond v (x ∷ filter test locks) (filter test locks))) ≡ grants (map grant_of (cond b (x ∷ filter (on r) locks) (filter (on r) locks)))
+      cookies (filter (on r) (cond v (x ∷ filter test locks) (filter test locks)))
+      ≡ grants (map grant_of (cond b (x ∷ filter (on r) locks) (filter (on r) locks)))
   by true e true t rest =
       let same : x.resource ≡ r = same_is x.resource r e in
       let here : test (lock_on r (grant_of x)) ≡ true = subst (λ k. test (lock_on k (grant_of x)) ≡ true) same t in
       ap (λ b. cookies (cond b (x ∷ filter (on r) (filter test locks)) (filter (on r) (filter test locks)))) e
       ∙ ap (λ cs. x.cookie ∷ cs) rest
-      ∙ sym (ap (λ b. map (λ lock. lock.cookie) (cond b (grant_of x ∷ filter (λ lock. test (lock_on r lock)) (grants_on r locks)) (filter (λ lock. test (lock_on r lock)) (grants_on r locks)))) here)
+      ∙ sym (ap (λ b. map (λ lock. lock.cookie) (cond b (grant_of x ∷ filter (λ lock. test (lock_on r lock)) (grants_on r locks))
+      (filter (λ lock. test (lock_on r lock)) (grants_on r locks)))) here)
   by true e false t rest =
       let same : x.resource ≡ r = same_is x.resource r e in
       let here : test (lock_on r (grant_of x)) ≡ false = subst (λ k. test (lock_on k (grant_of x)) ≡ false) same t in
-      rest ∙ sym (ap (λ b. map (λ lock. lock.cookie) (cond b (grant_of x ∷ filter (λ lock. test (lock_on r lock)) (grants_on r locks)) (filter (λ lock. test (lock_on r lock)) (grants_on r locks)))) here)
+      rest ∙ sym (ap (λ b. map (λ lock. lock.cookie) (cond b (grant_of x ∷ filter (λ lock. test (lock_on r lock)) (grants_on r locks))
+      (filter (λ lock. test (lock_on r lock)) (grants_on r locks)))) here)
   by false e true t rest = ap (λ b. cookies (cond b (x ∷ filter (on r) (filter test locks)) (filter (on r) (filter test locks)))) e ∙ rest
   by false e false t rest = rest
 
 -- a lock that meets the guard of a part is on one of the resources
-meets_one : (parts : List Part) (lock : Lock) → list_any (λ part. same_resource lock.resource (guard part).0) parts ≡ false → list_any (λ part. is_guarded part lock) parts ≡ false
+meets_one : (parts : List Part) (lock : Lock) → list_any (λ part. same_resource lock.resource (guard part).0) parts ≡ false
+    → list_any (λ part. is_guarded part lock) parts ≡ false
 meets_one [] lock none = refl
 meets_one (part ∷ parts) lock none =
-    let apart = or_false (same_resource lock.resource (guard part).0) (list_any (λ p. same_resource lock.resource (guard p).0) parts) none in
-    let here : is_guarded part lock ≡ false = ap (λ b. b && conflict (record { who = lock.ask.who; mode = EX; policy = (guard part).1 }) lock.ask) apart.0 in
+    let apart = or_false (same_resource lock.resource (guard part).0) (list_any (λ p. same_resource lock.resource (guard p).0) parts) none
+    in
+    let here : is_guarded part lock ≡ false = ap (λ b. b && conflict (record { who = lock.ask.who; mode = EX; policy = (guard part).1 })
+    lock.ask) apart.0 in
     ap (λ b. b || list_any (λ p. is_guarded p lock) parts) here ∙ meets_one parts lock apart.1
 
-guarded_listed : (parts : List Part) (rs : List Resource) → AreGuards parts rs → (lock : Lock) → list_any (λ part. is_guarded part lock) parts ≡ true → is_listed lock.resource rs ≡ true
+guarded_listed : (parts : List Part) (rs : List Resource) → AreGuards parts rs → (lock : Lock)
+    → list_any (λ part. is_guarded part lock) parts ≡ true → is_listed lock.resource rs ≡ true
 guarded_listed parts rs guards lock h = by (is_listed lock.resource rs) refl where
   by : (b : Bool) → is_listed lock.resource rs ≡ b → b ≡ true
   by true e = refl
   by false e = sym (meets_one parts lock (guards.all lock.resource e)) ∙ h
 
-all_listed : (test : Lock → Bool) (rs : List Resource) → ((lock : Lock) → test lock ≡ true → is_listed lock.resource rs ≡ true) → (locks : List Lock) → Listed rs (filter test locks)
+all_listed : (test : Lock → Bool) (rs : List Resource) → ((lock : Lock) → test lock ≡ true → is_listed lock.resource rs ≡ true)
+    → (locks : List Lock) → Listed rs (filter test locks)
 all_listed test rs listed [] = tt
 all_listed test rs listed (x ∷ locks) = by (test x) refl (all_listed test rs listed locks) where
   by : (b : Bool) → test x ≡ b → Listed rs (filter test locks) → Listed rs (cond b (x ∷ filter test locks) (filter test locks))
@@ -127,22 +143,28 @@ all_listed test rs listed (x ∷ locks) = by (test x) refl (all_listed test rs l
   by false e rest = rest
 
 on_all : (parts : List Part) (es : Entries) → AreRising es → (rs : List Resource) →
-    map (λ lock. lock.cookie) (by_resource rs (filter (λ lock. list_any (λ part. is_guarded part lock) parts) (locks_of (λ all. all.granted) es))) ≡ guarded_on_all rs parts es
+    map (λ lock. lock.cookie) (by_resource rs (filter (λ lock. list_any (λ part. is_guarded part lock) parts)
+    (locks_of (λ all. all.granted) es))) ≡ guarded_on_all rs parts es
 on_all parts es up [] = refl
 on_all parts es up (r ∷ rs) =
     let locks = locks_of (λ all. all.granted) es in
     let test : Lock → Bool = λ lock. list_any (λ part. is_guarded part lock) parts in
     let one : map (λ lock. lock.cookie) (filter (on r) (filter test locks)) ≡ guarded_on r parts es =
-    passing_on test r locks ∙ ap (λ grants. map (λ lock. lock.cookie) (filter (λ lock. test (lock_on r lock)) grants)) (part_on (λ all. all.granted) refl r es up) in
-    map-append (λ lock. lock.cookie) (filter (on r) (filter test locks)) (by_resource rs (filter test locks)) ∙ (λ i. one i ++ on_all parts es up rs i)
+    passing_on test r locks ∙ ap (λ grants. map (λ lock. lock.cookie) (filter (λ lock. test (lock_on r lock)) grants))
+    (part_on (λ all. all.granted) refl r es up) in
+    map-append (λ lock. lock.cookie) (filter (on r) (filter test locks)) (by_resource rs (filter test locks))
+    ∙ (λ i. one i ++ on_all parts es up rs i)
 
 pub guarded_all : (parts : List Part) (es : Entries) → AreRising es → (rs : List Resource) → AreGuards parts rs →
-    IsPermutation (map (λ lock. lock.cookie) (filter (λ lock. list_any (λ part. is_guarded part lock) parts) (locks_of (λ all. all.granted) es))) (guarded_on_all rs parts es)
+    IsPermutation (map (λ lock. lock.cookie) (filter (λ lock. list_any (λ part. is_guarded part lock) parts)
+    (locks_of (λ all. all.granted) es))) (guarded_on_all rs parts es)
 guarded_all parts es up rs guards =
     let test : Lock → Bool = λ lock. list_any (λ part. is_guarded part lock) parts in
     let locks = filter test (locks_of (λ all. all.granted) es) in
-    let moved : IsPermutation locks (by_resource rs locks) = sorted_out rs guards.once locks (all_listed test rs (guarded_listed parts rs guards) (locks_of (λ all. all.granted) es)) in
-    subst (IsPermutation (map (λ lock. lock.cookie) locks)) (on_all parts es up rs) (IsPermutation-map (λ lock. lock.cookie) locks (by_resource rs locks) moved)
+    let moved : IsPermutation locks (by_resource rs locks) = sorted_out rs guards.once locks
+    (all_listed test rs (guarded_listed parts rs guards) (locks_of (λ all. all.granted) es)) in
+    subst (IsPermutation (map (λ lock. lock.cookie) locks)) (on_all parts es up rs)
+    (IsPermutation-map (λ lock. lock.cookie) locks (by_resource rs locks) moved)
 
 -- one more, that isn't there
 pub apart_more : (rs : List Resource) (r : Resource) → AreApart rs → is_listed r rs ≡ false → AreApart (rs ++ r ∷ [])
@@ -150,7 +172,9 @@ apart_more [] r apart new = (tt, tt)
 apart_more (s ∷ rs) r apart new =
     let parts = or_false (same_resource r s) (is_listed r rs) new in
     (with_last s (same_turned s r ∙ parts.0) rs apart.0, apart_more rs r apart.1 parts.1) where
-      with_last : (k : Resource) → same_resource k r ≡ false → (ks : List Resource) → AllByRecursion (λ other. same_resource k other ≡ false) ks → AllByRecursion (λ other. same_resource k other ≡ false) (ks ++ r ∷ [])
+      with_last : (k : Resource) → same_resource k r ≡ false → (ks : List Resource)
+          → AllByRecursion (λ other. same_resource k other ≡ false) ks
+          → AllByRecursion (λ other. same_resource k other ≡ false) (ks ++ r ∷ [])
       with_last k differ [] all = (differ, tt)
       with_last k differ (t ∷ ks) all = (all.0, with_last k differ ks all.1)
 
@@ -184,18 +208,24 @@ abbrev pub of_life_on : Who → List Grant → List Cookie
 of_life_on who grants = map (λ lock. lock.cookie) (filter (λ lock. same_who lock.ask.who who) grants)
 
 one_queue : (who : Who) (r : Resource) (grants : List Grant) (rest : List Lock) →
-    map (λ lock. lock.cookie) (filter (λ lock. same_who lock.ask.who who) (map (lock_on r) grants ++ rest)) ≡ of_life_on who grants ++ map (λ lock. lock.cookie) (filter (λ lock. same_who lock.ask.who who) rest)
+    map (λ lock. lock.cookie) (filter (λ lock. same_who lock.ask.who who) (map (lock_on r) grants ++ rest)) ≡ of_life_on who grants
+    ++ map (λ lock. lock.cookie) (filter (λ lock. same_who lock.ask.who who) rest)
 one_queue who r [] rest = refl
 one_queue who r (g ∷ grants) rest = by (same_who g.ask.who who) (one_queue who r grants rest) where
   mine : List Lock
   mine = filter (λ lock. same_who lock.ask.who who) (map (lock_on r) grants ++ rest)
 
-  by : (b : Bool) → map (λ lock. lock.cookie) mine ≡ of_life_on who grants ++ map (λ lock. lock.cookie) (filter (λ lock. same_who lock.ask.who who) rest) →
-      map (λ lock. lock.cookie) (cond b (lock_on r g ∷ mine) mine) ≡ map (λ lock. lock.cookie) (cond b (g ∷ filter (λ lock. same_who lock.ask.who who) grants) (filter (λ lock. same_who lock.ask.who who) grants)) ++ map (λ lock. lock.cookie) (filter (λ lock. same_who lock.ask.who who) rest)
+  by : (b : Bool) → map (λ lock. lock.cookie) mine ≡ of_life_on who grants
+      ++ map (λ lock. lock.cookie) (filter (λ lock. same_who lock.ask.who who) rest) →
+      map (λ lock. lock.cookie) (cond b (lock_on r g ∷ mine) mine)
+      ≡ map (λ lock. lock.cookie) (cond b (g ∷ filter (λ lock. same_who lock.ask.who who) grants)
+      (filter (λ lock. same_who lock.ask.who who) grants)) ++ map (λ lock. lock.cookie)
+      (filter (λ lock. same_who lock.ask.who who) rest)
   by true h = ap (λ cs. g.cookie ∷ cs) h
   by false h = h
 
-pub life_more : (who : Who) (es rest : Entries) (r : Resource) (all : QueueState) (cookies some : List Cookie) (whole : List Cookie) → es ≡ (r, all) ∷ rest →
+pub life_more : (who : Who) (es rest : Entries) (r : Resource) (all : QueueState) (cookies some : List Cookie) (whole : List Cookie) → es
+    ≡ (r, all) ∷ rest →
     some ≡ of_life_on who all.granted → cookies ++ of_life who es ≡ whole → (cookies ++ some) ++ of_life who rest ≡ whole
 life_more who es rest r all cookies some whole first here before =
     append_assoc cookies some (of_life who rest)

@@ -1,5 +1,6 @@
 -- Cookies in order, and relations over the rest of a list.
-use Rattle.std.proofs.Common.{◌≡◌, ℕ, suc, ◌+◌, ◌<◌, ◌≤◌, ◌==◌, Bool, true, false, cond, List, [], ◌∷◌, ◌++◌, length, map, filter, take, drop, get_or, refl, sym, subst, arith, IsPermutation}
+use Rattle.std.proofs.Common.{◌≡◌, ℕ, suc, ◌+◌, ◌<◌, ◌≤◌, ◌==◌, Bool, true, false, cond, List, [], ◌∷◌, ◌++◌, length, map, filter, take}
+use Rattle.std.proofs.Common.{drop, get_or, refl, sym, subst, arith, IsPermutation}
 use Rattle.std.specs.List.{count_by}
 use Rattle.std.proofs.lemmas.Grind.{common_steps}
 use Rattle.std.proofs.lemmas.Bool.Decides.{nat_tests}
@@ -21,7 +22,8 @@ numbers_of_locks : (n : ℕ) (test : Lock → Bool) (xs : List Lock) → number_
 numbers_of_locks n test [] = omega arith
 numbers_of_locks n test (x ∷ xs) = let rest = numbers_of_locks n test xs in grind (arith, common_steps, rest)
 
-numbers_of_grants : (n : ℕ) (test : Grant → Bool) (xs : List Grant) → number_of n (map (λ lock. lock.cookie) (filter test xs)) ≤ queue.times n xs
+numbers_of_grants : (n : ℕ) (test : Grant → Bool) (xs : List Grant)
+    → number_of n (map (λ lock. lock.cookie) (filter test xs)) ≤ queue.times n xs
 numbers_of_grants n test [] = omega arith
 numbers_of_grants n test (x ∷ xs) = let rest = numbers_of_grants n test xs in grind (arith, common_steps, rest)
 
@@ -29,14 +31,17 @@ abbrev NotFalling : List Cookie → Type 0
 NotFalling cookies = (place : ℕ) (d : Cookie) → place + 1 < length cookies → (get_or cookies place d).0 ≤ (get_or cookies (place + 1) d).0
 
 -- cookies that don't fall rise, where none is there twice
-rising_all : (all cookies : List Cookie) → ((n : ℕ) → number_of n all ≤ 1) → IsPermutation all cookies → NotFalling cookies → IsRising cookies
+rising_all : (all cookies : List Cookie) → ((n : ℕ) → number_of n all ≤ 1) → IsPermutation all cookies → NotFalling cookies
+    → IsRising cookies
 rising_all all cookies once moved sorted = λ place d within.
     let n = (get_or cookies place d).0 in
     let low : n ≤ (get_or cookies (place + 1) d).0 = sorted place d within in
     by place d within n refl low (get_or cookies (place + 1) d).0 refl (n == (get_or cookies (place + 1) d).0) refl
   where
-    by : (place : ℕ) (d : Cookie) → place + 1 < length cookies → (n : ℕ) → (get_or cookies place d).0 ≡ n → n ≤ (get_or cookies (place + 1) d).0 →
-        (m : ℕ) → (get_or cookies (place + 1) d).0 ≡ m → (same : Bool) → (n == (get_or cookies (place + 1) d).0) ≡ same → n < (get_or cookies (place + 1) d).0
+    by : (place : ℕ) (d : Cookie) → place + 1 < length cookies → (n : ℕ) → (get_or cookies place d).0 ≡ n
+        → n ≤ (get_or cookies (place + 1) d).0 →
+        (m : ℕ) → (get_or cookies (place + 1) d).0 ≡ m → (same : Bool) → (n == (get_or cookies (place + 1) d).0) ≡ same
+        → n < (get_or cookies (place + 1) d).0
     by place d within n e low m f false differ = grind (arith, nat_tests, differ)
     by place d within n e low m f true equal =
         let here : ((get_or cookies place d).0 == n) ≡ true = grind (arith, nat_tests, e) in
@@ -74,7 +79,9 @@ rest_at xs i d within =
 pub blocking_step : (granted waiting : List Grant) (i : ℕ) (d : Grant) (told first : List Cookie) → i < length waiting →
     IsPermutation (blocking_more (get_or waiting i d).ask granted told) first → IsRising first →
     ((rest : List Cookie) → AreBlocking granted (drop i waiting) told rest → AreBlocking granted waiting [] (told ++ rest)) →
-    (rest : List Cookie) → AreBlocking granted (drop (i + 1) waiting) (told ++ first) rest → AreBlocking granted waiting [] ((told ++ first) ++ rest)
+    (rest : List Cookie) → AreBlocking granted (drop (i + 1) waiting) (told ++ first) rest
+    → AreBlocking granted waiting [] ((told ++ first) ++ rest)
 blocking_step granted waiting i d told first within moved rising goes_on rest h =
     subst (AreBlocking granted waiting []) (sym (append_assoc told first rest))
-    (goes_on (first ++ rest) (subst (λ ws. AreBlocking granted ws told (first ++ rest)) (sym (rest_at waiting i d within)) (first, rest, refl, rising, moved, h)))
+    (goes_on (first ++ rest) (subst (λ ws. AreBlocking granted ws told (first ++ rest)) (sym (rest_at waiting i d within))
+    (first, rest, refl, rising, moved, h)))

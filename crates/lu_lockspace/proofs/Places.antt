@@ -1,5 +1,6 @@
 -- All locks of one cookie are on one resource: so what is found of it there is what is found among all.
-use Rattle.std.proofs.Common.{◌≡◌, ℕ, ◌+◌, ◌≤◌, ◌==◌, ◌||◌, Bool, true, false, cond, Option, Some, None, is_some, List, [], ◌∷◌, ◌++◌, map, filter, find, refl, sym, ◌∙◌, ap, arith}
+use Rattle.std.proofs.Common.{◌≡◌, ℕ, ◌+◌, ◌≤◌, ◌==◌, ◌||◌, Bool, true, false, cond, Option, Some, None, is_some, List, [], ◌∷◌, ◌++◌, map}
+use Rattle.std.proofs.Common.{filter, find, refl, sym, ◌∙◌, ap, arith}
 use Rattle.std.specs.Option.{option_map}
 use Rattle.std.proofs.lemmas.Bool.Decides.{nat_tests}
 use Rattle.std.proofs.lemmas.List.Sums.{sum_by-append}
@@ -23,7 +24,8 @@ abbrev pub Elsewhere : ℕ → Resource → List Lock → Type 0
 Elsewhere c r xs = (s : Resource) → same_resource r s ≡ false → queue.has c (grants_on s xs) ≡ false
 
 -- one lock and the others on a resource
-has_more : (c : ℕ) (s : Resource) (x : Lock) (xs : List Lock) → queue.has c (grants_on s (x ∷ xs)) ≡ false → queue.has c (grants_on s xs) ≡ false
+has_more : (c : ℕ) (s : Resource) (x : Lock) (xs : List Lock) → queue.has c (grants_on s (x ∷ xs)) ≡ false → queue.has c (grants_on s xs)
+    ≡ false
 has_more c s x xs = by (same_resource x.resource s) where
   on : List Lock
   on = filter (λ l. same_resource l.resource s) xs
@@ -36,7 +38,8 @@ elsewhere_more : (c : ℕ) (r : Resource) (x : Lock) (xs : List Lock) → Elsewh
 elsewhere_more c r x xs none = λ s differ. has_more c s x xs (none s differ)
 
 -- a lock with the cookie is on the resource
-on_it : (c : ℕ) (r : Resource) (x : Lock) (xs : List Lock) → Elsewhere c r (x ∷ xs) → (x.cookie.0 == c) ≡ true → same_resource r x.resource ≡ true
+on_it : (c : ℕ) (r : Resource) (x : Lock) (xs : List Lock) → Elsewhere c r (x ∷ xs) → (x.cookie.0 == c) ≡ true → same_resource r x.resource
+    ≡ true
 on_it c r x xs none here = by (same_resource r x.resource) refl where
   there : queue.has c (grants_on x.resource (x ∷ xs)) ≡ true
   there = rw (same_itself x.resource, here) refl
@@ -55,11 +58,13 @@ find_on c r (x ∷ xs) none =
       on : List Lock
       on = filter (λ l. same_resource l.resource r) xs
 
-      skip : (b : Bool) → (x.cookie.0 == c) ≡ false → find (λ l. l.cookie.0 == c) (map grant_of (cond b (x ∷ on) on)) ≡ find (λ l. l.cookie.0 == c) (map grant_of on)
+      skip : (b : Bool) → (x.cookie.0 == c) ≡ false → find (λ l. l.cookie.0 == c) (map grant_of (cond b (x ∷ on) on))
+          ≡ find (λ l. l.cookie.0 == c) (map grant_of on)
       skip true e = rw e refl
       skip false e = refl
 
-      by : (b : Bool) → (x.cookie.0 == c) ≡ b → find (λ l. l.cookie.0 == c) xs ≡ option_map (lock_on r) (find (λ l. l.cookie.0 == c) (map grant_of on)) →
+      by : (b : Bool) → (x.cookie.0 == c) ≡ b → find (λ l. l.cookie.0 == c) xs
+          ≡ option_map (lock_on r) (find (λ l. l.cookie.0 == c) (map grant_of on)) →
           find (λ l. l.cookie.0 == c) (x ∷ xs) ≡ option_map (lock_on r) (find (λ l. l.cookie.0 == c) (grants_on r (x ∷ xs)))
       by true e rest =
           let same : r ≡ x.resource = same_is r x.resource (on_it c r x xs none e) in
@@ -82,11 +87,13 @@ times_on c r (x ∷ xs) none =
           omega (arith, first, all)
       skip false e = refl
 
-      by : (b : Bool) → (x.cookie.0 == c) ≡ b → times c xs ≡ queue.times c (map grant_of on) → times c (x ∷ []) + times c xs ≡ queue.times c (grants_on r (x ∷ xs))
+      by : (b : Bool) → (x.cookie.0 == c) ≡ b → times c xs ≡ queue.times c (map grant_of on) → times c (x ∷ []) + times c xs
+          ≡ queue.times c (grants_on r (x ∷ xs))
       by true e rest =
           let same : r ≡ x.resource = same_is r x.resource (on_it c r x xs none e) in
           let here : same_resource x.resource r ≡ true = rw same (same_itself x.resource) in
-          let all : queue.times c (grants_on r (x ∷ xs)) ≡ queue.times c (map grant_of (x ∷ on)) = ap (λ b. queue.times c (map grant_of (cond b (x ∷ on) on))) here in
+          let all : queue.times c (grants_on r (x ∷ xs)) ≡ queue.times c (map grant_of (x ∷ on)) =
+          ap (λ b. queue.times c (map grant_of (cond b (x ∷ on) on))) here in
           let split = lists.times-append c (grant_of x ∷ []) (map grant_of on) in
           let one : queue.times c (grant_of x ∷ []) ≡ times c (x ∷ []) = refl in
           omega (arith, rest, all, split, one)
@@ -106,7 +113,8 @@ has_on c r (x ∷ xs) none =
       skip true e = rw e refl
       skip false e = refl
 
-      by : (b : Bool) → (x.cookie.0 == c) ≡ b → has c xs ≡ queue.has c (map grant_of on) → has c (x ∷ xs) ≡ queue.has c (grants_on r (x ∷ xs))
+      by : (b : Bool) → (x.cookie.0 == c) ≡ b → has c xs ≡ queue.has c (map grant_of on) → has c (x ∷ xs)
+          ≡ queue.has c (grants_on r (x ∷ xs))
       by true e rest =
           let same : r ≡ x.resource = same_is r x.resource (on_it c r x xs none e) in
           let here : same_resource x.resource r ≡ true = rw same (same_itself x.resource) in
@@ -126,7 +134,8 @@ abbrev spot : Option Resource → Resource
 spot None = nowhere
 spot (Some r) = r
 
-not_in : (c : ℕ) (space : SpaceState) (place : Option Resource) → IsPlaced c space place → (s : Resource) → same_resource (spot place) s ≡ false →
+not_in : (c : ℕ) (space : SpaceState) (place : Option Resource) → IsPlaced c space place → (s : Resource) → same_resource (spot place) s
+    ≡ false →
     queue.is_in c (queue_of s space) ≡ false
 not_in c space None at s differ = at s
 not_in c space (Some r) at s differ = at s ∙ turned where
@@ -139,7 +148,8 @@ granted_elsewhere c space place at = λ s differ. (lists.or_false _ _ (not_in c 
 waiting_elsewhere : (c : ℕ) (space : SpaceState) (place : Option Resource) → IsPlaced c space place → Elsewhere c (spot place) space.waiting
 waiting_elsewhere c space place at = λ s differ. (lists.or_false _ _ (not_in c space place at s differ)).1
 
-all_elsewhere : (c : ℕ) (space : SpaceState) (place : Option Resource) → IsPlaced c space place → Elsewhere c (spot place) (space.granted ++ space.waiting)
+all_elsewhere : (c : ℕ) (space : SpaceState) (place : Option Resource) → IsPlaced c space place
+    → Elsewhere c (spot place) (space.granted ++ space.waiting)
 all_elsewhere c space place at = λ s differ.
     ap (queue.has c) (grants_on-append s space.granted space.waiting)
     ∙ list_any-append (λ (l : Grant). l.cookie.0 == c) (grants_on s space.granted) (grants_on s space.waiting)
@@ -150,14 +160,17 @@ pub lock_at : (c : ℕ) (space : SpaceState) (place : Option Resource) → IsPla
     lock_of c space ≡ option_map (lock_on (spot place)) (queue.lock_of c (queue_of (spot place) space))
 lock_at c space place at =
     find_on c (spot place) (space.granted ++ space.waiting) (all_elsewhere c space place at)
-    ∙ ap (λ grants. option_map (lock_on (spot place)) (find (λ l. l.cookie.0 == c) grants)) (grants_on-append (spot place) space.granted space.waiting)
+    ∙ ap (λ grants. option_map (lock_on (spot place)) (find (λ l. l.cookie.0 == c) grants))
+    (grants_on-append (spot place) space.granted space.waiting)
 
-pub granted_at : (c : ℕ) (space : SpaceState) (place : Option Resource) → IsPlaced c space place → has c space.granted ≡ queue.has c (queue_of (spot place) space).granted
+pub granted_at : (c : ℕ) (space : SpaceState) (place : Option Resource) → IsPlaced c space place → has c space.granted
+    ≡ queue.has c (queue_of (spot place) space).granted
 granted_at c space place at = has_on c (spot place) space.granted (granted_elsewhere c space place at)
 
 pub in_at : (c : ℕ) (space : SpaceState) (place : Option Resource) → IsPlaced c space place → is_in c space ≡ is_some place
 in_at c space place at =
-    (λ i. has_on c (spot place) space.granted (granted_elsewhere c space place at) i || has_on c (spot place) space.waiting (waiting_elsewhere c space place at) i)
+    (λ i. has_on c (spot place) space.granted (granted_elsewhere c space place at) i
+    || has_on c (spot place) space.waiting (waiting_elsewhere c space place at) i)
     ∙ at (spot place) ∙ by place where
       by : (p : Option Resource) → is_place (spot p) p ≡ is_some p
       by None = refl
@@ -176,13 +189,15 @@ once_at c space place at lawful =
 found_has : (c : ℕ) (locks : List Lock) → is_some (find (λ lock. lock.cookie.0 == c) locks) ≡ has c locks
 found_has c [] = refl
 found_has c (lock ∷ locks) = by (lock.cookie.0 == c) (found_has c locks) where
-  by : (here : Bool) → is_some (find (λ l. l.cookie.0 == c) locks) ≡ has c locks → is_some (cond here (Some lock) (find (λ l. l.cookie.0 == c) locks)) ≡ (here || has c locks)
+  by : (here : Bool) → is_some (find (λ l. l.cookie.0 == c) locks) ≡ has c locks
+      → is_some (cond here (Some lock) (find (λ l. l.cookie.0 == c) locks)) ≡ (here || has c locks)
   by true rest = refl
   by false rest = rest
 
 -- what is found by its cookie is there
 pub is_found : (c : ℕ) (space : SpaceState) → is_some (lock_of c space) ≡ is_in c space
-is_found c space = found_has c (space.granted ++ space.waiting) ∙ list_any-append (λ (l : Lock). l.cookie.0 == c) space.granted space.waiting
+is_found c space = found_has c (space.granted ++ space.waiting)
+    ∙ list_any-append (λ (l : Lock). l.cookie.0 == c) space.granted space.waiting
 
 pub no_lock : (c : ℕ) (space : SpaceState) → IsPlaced c space None → lock_of c space ≡ None
 no_lock c space at = none_from_false (lock_of c space) (is_found c space ∙ in_at c space None at)

@@ -65,16 +65,20 @@ both : {X : Type 0} (xs ys us vs : List X) → xs ≡ us → ys ≡ vs → xs ++
 both xs ys us vs e f = λ i. e i ++ f i
 
 -- the locks on a resource are those of its queue
-pub part_on : (part : QueueState → List Grant) → part queue.empty ≡ [] → (r : Resource) (es : Entries) → AreRising es → grants_on r (locks_of part es) ≡ part (at r es)
+pub part_on : (part : QueueState → List Grant) → part queue.empty ≡ [] → (r : Resource) (es : Entries) → AreRising es
+    → grants_on r (locks_of part es) ≡ part (at r es)
 part_on part none r [] rising = sym none
 part_on part none r (e ∷ es) rising =
     grants_on-append r (map (lock_on e.0) (part e.1)) (locks_of part es)
     ∙ by (same_resource e.0 r) refl (part_on part none r es (sorted_tail order e.0 (keys_of es) rising)) where
-      by : (b : Bool) → same_resource e.0 r ≡ b → grants_on r (locks_of part es) ≡ part (at r es) → grants_on r (map (lock_on e.0) (part e.1)) ++ grants_on r (locks_of part es) ≡ part (at r (e ∷ es))
+      by : (b : Bool) → same_resource e.0 r ≡ b → grants_on r (locks_of part es) ≡ part (at r es)
+          → grants_on r (map (lock_on e.0) (part e.1)) ++ grants_on r (locks_of part es) ≡ part (at r (e ∷ es))
       by true h rest =
           let same : e.0 ≡ r = same_is e.0 r h in
-          let first : grants_on r (map (lock_on e.0) (part e.1)) ≡ part e.1 = subst (λ k. grants_on k (map (lock_on e.0) (part e.1)) ≡ part e.1) same (all_on e.0 (part e.1)) in
-          let last : entry_of r es ≡ None = subst (λ k. entry_of k es ≡ None) same (not_after e.0 es (sorted_head order e.0 (keys_of es) rising)) in
+          let first : grants_on r (map (lock_on e.0) (part e.1)) ≡ part e.1 =
+          subst (λ k. grants_on k (map (lock_on e.0) (part e.1)) ≡ part e.1) same (all_on e.0 (part e.1)) in
+          let last : entry_of r es ≡ None = subst (λ k. entry_of k es ≡ None) same
+          (not_after e.0 es (sorted_head order e.0 (keys_of es) rising)) in
           let empty : grants_on r (locks_of part es) ≡ [] = rest ∙ ap (λ o. part (unwrap_or o queue.empty)) last ∙ none in
           both _ _ (part e.1) [] first empty ∙ append-nil (part e.1) ∙ ap part (sym (at_here r e es h))
       by false h rest =

@@ -24,7 +24,8 @@ lower a b h = grind (arith, nat_tests, common_steps, h)
 kept_above : (r : Resource) (es : Entries) → AllByRecursion (λ s. order r s ≡ Less) (keys_of es) → AllByRecursion (IsLower r) (waited_on es)
 kept_above r [] h = tt
 kept_above r (e ∷ es) h = by (some_waits e.1) (kept_above r es h.1) where
-  by : (v : Bool) → AllByRecursion (IsLower r) (waited_on es) → AllByRecursion (IsLower r) (map (λ f. f.0) (cond v (e ∷ filter (λ f. some_waits f.1) es) (filter (λ f. some_waits f.1) es)))
+  by : (v : Bool) → AllByRecursion (IsLower r) (waited_on es) → AllByRecursion (IsLower r)
+      (map (λ f. f.0) (cond v (e ∷ filter (λ f. some_waits f.1) es) (filter (λ f. some_waits f.1) es)))
   by true rest = (lower r e.0 h.0, rest)
   by false rest = rest
 
@@ -34,18 +35,21 @@ each_lower (e ∷ es) up = by (some_waits e.1) (each_lower es (sorted_tail order
   head : AllByRecursion (IsLower e.0) (waited_on es)
   head = kept_above e.0 es (sorted_head order e.0 (keys_of es) up)
 
-  by : (v : Bool) → AllPairs IsLower (waited_on es) → AllPairs IsLower (map (λ f. f.0) (cond v (e ∷ filter (λ f. some_waits f.1) es) (filter (λ f. some_waits f.1) es)))
+  by : (v : Bool) → AllPairs IsLower (waited_on es) → AllPairs IsLower
+      (map (λ f. f.0) (cond v (e ∷ filter (λ f. some_waits f.1) es) (filter (λ f. some_waits f.1) es)))
   by true rest = AllPairs-cons IsLower e.0 (waited_on es) (All-from_recursion (IsLower e.0) (waited_on es) head) rest
   by false rest = rest
 
 -- what isn't there is not among those that wait
-absent : (r : Resource) (es : Entries) → AllByRecursion (λ s. order r s ≡ Less) (keys_of es) → list_any (same_resource r) (waited_on es) ≡ false
+absent : (r : Resource) (es : Entries) → AllByRecursion (λ s. order r s ≡ Less) (keys_of es) → list_any (same_resource r) (waited_on es)
+    ≡ false
 absent r [] h = refl
 absent r (e ∷ es) h = by (some_waits e.1) (absent r es h.1) where
   differs : same_resource r e.0 ≡ false
   differs = let less : order r e.0 ≡ Less = h.0 in grind (arith, nat_tests, common_steps, less)
 
-  by : (v : Bool) → list_any (same_resource r) (waited_on es) ≡ false → list_any (same_resource r) (map (λ f. f.0) (cond v (e ∷ filter (λ f. some_waits f.1) es) (filter (λ f. some_waits f.1) es))) ≡ false
+  by : (v : Bool) → list_any (same_resource r) (waited_on es) ≡ false
+      → list_any (same_resource r) (map (λ f. f.0) (cond v (e ∷ filter (λ f. some_waits f.1) es) (filter (λ f. some_waits f.1) es))) ≡ false
   by true rest = ap (λ b. b || list_any (same_resource r) (waited_on es)) differs ∙ rest
   by false rest = rest
 
@@ -57,10 +61,13 @@ listed : (r : Resource) (es : Entries) → AreRising es → list_any (same_resou
 listed r [] up = sym none_waits
 listed r (e ∷ es) up = by (same_resource e.0 r) refl (some_waits e.1) refl (listed r es (sorted_tail order e.0 (keys_of es) up)) where
   here : same_resource e.0 r ≡ true → list_any (same_resource r) (waited_on es) ≡ false
-  here same = subst (λ k. list_any (same_resource k) (waited_on es) ≡ false) (same_is e.0 r same) (absent e.0 es (sorted_head order e.0 (keys_of es) up))
+  here same = subst (λ k. list_any (same_resource k) (waited_on es) ≡ false) (same_is e.0 r same)
+      (absent e.0 es (sorted_head order e.0 (keys_of es) up))
 
-  by : (b : Bool) → same_resource e.0 r ≡ b → (v : Bool) → some_waits e.1 ≡ v → list_any (same_resource r) (waited_on es) ≡ some_waits (at r es) →
-      list_any (same_resource r) (map (λ f. f.0) (cond v (e ∷ filter (λ f. some_waits f.1) es) (filter (λ f. some_waits f.1) es))) ≡ some_waits (at r (e ∷ es))
+  by : (b : Bool) → same_resource e.0 r ≡ b → (v : Bool) → some_waits e.1 ≡ v → list_any (same_resource r) (waited_on es)
+      ≡ some_waits (at r es) →
+      list_any (same_resource r) (map (λ f. f.0) (cond v (e ∷ filter (λ f. some_waits f.1) es) (filter (λ f. some_waits f.1) es)))
+      ≡ some_waits (at r (e ∷ es))
   by true same true waits rest =
       ap (λ b. b || list_any (same_resource r) (waited_on es)) (same_turned r e.0 ∙ same)
       ∙ sym (ap some_waits (at_here r e es same) ∙ waits)

@@ -25,7 +25,8 @@ AreApart (resource ∷ resources) = AllByRecursion (λ other. same_resource reso
 -- The resources of the guards of these parts, each once.
 pub record AreGuards (parts : List Part) (resources : List Resource) : Type 0 where
   pub once : AreApart resources
-  pub all : (resource : Resource) → is_listed resource resources ≡ false → list_any (λ part. same_resource resource (guard part).0) parts ≡ false
+  pub all : (resource : Resource) → is_listed resource resources ≡ false → list_any (λ part. same_resource resource (guard part).0) parts
+      ≡ false
 
 -- The cookies of these locks on a resource that meet a guard of the parts.
 abbrev pub guarded_in : Resource → List Part → List Grant → List Cookie

@@ -1,6 +1,7 @@
 -- All locks of a target: the queue of each resource is what is granted and what waits on it (Wang et al., Understanding
 -- Lustre Filesystem Internals, the lock manager; the order of grants is this project's profile).
-use Rattle.std.specs.Prelude.{◌≡◌, ℕ, ◌+◌, ◌≤◌, ◌<◌, Bool, false, not, ◌&&◌, ◌||◌, ◌==◌, List, [], ◌∷◌, ◌++◌, Option, Some, map, filter, find, count_by, length, slice_index_or, slice_get, is_some, AllPairs, IsPermutation}
+use Rattle.std.specs.Prelude.{◌≡◌, ℕ, ◌+◌, ◌≤◌, ◌<◌, Bool, false, not, ◌&&◌, ◌||◌, ◌==◌, List, [], ◌∷◌, ◌++◌, Option, Some, map, filter}
+use Rattle.std.specs.Prelude.{find, count_by, length, slice_index_or, slice_get, is_some, AllPairs, IsPermutation}
 use Rattle.std.specs.List.{list_any}
 use Rattle.lu_base.specs.declared.ids.Cookie.{Cookie}
 use Rattle.lu_base.specs.declared.ids.Who.{Who}
@@ -46,7 +47,8 @@ lock_on resource grant = record { cookie = grant.cookie; resource = resource; as
 -- The same locks, none of whose cookies is below that of the one before it.
 pub record IsInOrder (locks order : List Lock) : Type 0 where
   pub same : IsPermutation locks order
-  pub rising : (place : ℕ) (d : Lock) → place + 1 < length order → (slice_index_or order place d).cookie.0 ≤ (slice_index_or order (place + 1) d).cookie.0
+  pub rising : (place : ℕ) (d : Lock) → place + 1 < length order
+      → (slice_index_or order place d).cookie.0 ≤ (slice_index_or order (place + 1) d).cookie.0
 
 -- The lock at this place among those on a resource, in rising cookie; none past the last.
 pub record IsAt (resource : Resource) (at : ℕ) (locks : List Lock) (found : Option Lock) : Type 0 where
@@ -163,6 +165,8 @@ IsBefore a b = (a.fid.0 ≤ b.fid.0) × ((a.fid.0 ≡ b.fid.0) → a.stripe ≤ 
 -- So it is done on all resources on which these lives have locks, in rising order.
 pub record AreCancelled (lives : List Who) (before : SpaceState) (grants : List Grant) (after : SpaceState) : Type 0 where
   pub resources : List Resource
-  pub rising : (place : ℕ) (d : Resource) → place + 1 < length resources → IsBefore (slice_index_or resources place d) (slice_index_or resources (place + 1) d)
-  pub every : (resource : Resource) → list_any (same_resource resource) resources ≡ false → without_lives lives (queue_of resource before) ≡ queue_of resource before
+  pub rising : (place : ℕ) (d : Resource) → place + 1 < length resources
+      → IsBefore (slice_index_or resources place d) (slice_index_or resources (place + 1) d)
+  pub every : (resource : Resource) → list_any (same_resource resource) resources ≡ false → without_lives lives (queue_of resource before)
+      ≡ queue_of resource before
   pub settled : AllSettled lives resources before grants after

@@ -3,9 +3,9 @@ use Rattle.std.proofs.Common.{◌≡◌, refl, subst}
 use Rattle.lu_base.specs.declared.ids.Who.{Who}
 use Rattle.lu_part.specs.declared.parts.Part.{Part}
 use Rattle.lu_part.specs.declared.parts.Part.TheVariants as part
-use Rattle.lu_machine.specs.Footprint as footprint
-use Rattle.lu_machine.specs.Footprint.{Operation, Apart, forget, inode_of}
-use Rattle.lu_machine.proofs.Stated.{others_stay as tree_stays, new_from_old as tree_from_old, forget_drops_opens as tree_forgets}
+use Rattle.lu_spec_machine.specs.Footprint as footprint
+use Rattle.lu_spec_machine.specs.Footprint.{Operation, Apart, forget, inode_of}
+use Rattle.lu_spec_machine.proofs.Stated.{others_stay as tree_stays, new_from_old as tree_from_old, forget_drops_opens as tree_forgets}
 use Rattle.lu_service.specs.Acts.{Agree}
 use Rattle.lu_service.specs.Contents.{Contents, Same}
 use Rattle.lu_service.specs.Names.{names, after, forgotten}
@@ -29,12 +29,14 @@ others_stay s a p apart new stays =
 
 module _ (s t : Contents) (a : Operation) where
   -- on the trees
-  trees_agree : (p : Part) → Agree names s t a → footprint.Same s.tree t.tree p → footprint.Same (footprint.after s.osts s.tree a) (footprint.after t.osts t.tree a) p
+  trees_agree : (p : Part) → Agree names s t a → footprint.Same s.tree t.tree p
+      → footprint.Same (footprint.after s.osts s.tree a) (footprint.after t.osts t.tree a) p
   trees_agree p agree same =
       subst (λ n. footprint.Same (footprint.after s.osts s.tree a) (footprint.after n t.tree a) p) agree.osts
       (tree_from_old s.osts s.tree t.tree a p (same_parts s t (names.touches s a) agree.touched) same)
 
-  both_trimmed : (p : Part) → Agree names s t a → footprint.Same s.tree t.tree p → (Loses s a (inode_of p) → ⊥) → (Loses t a (inode_of p) → ⊥) → footprint.Same (after s a).tree (after t a).tree p
+  both_trimmed : (p : Part) → Agree names s t a → footprint.Same s.tree t.tree p → (Loses s a (inode_of p) → ⊥)
+      → (Loses t a (inode_of p) → ⊥) → footprint.Same (after s a).tree (after t a).tree p
   both_trimmed p agree same here there =
       let v = footprint.after s.osts s.tree a in
       let w = footprint.after t.osts t.tree a in
@@ -64,5 +66,6 @@ forget_drops_opens s who =
     record {
       own = (tree_forgets s.tree who).own;
       others = (tree_forgets s.tree who).others;
-      parts = λ p stays. up s (forgotten s who) p refl (then_same s.tree t (forgotten s who).tree p (same_forgotten s who p) (same_trimmed t p stays));
+      parts = λ p stays. up s (forgotten s who) p refl (then_same s.tree t (forgotten s who).tree p (same_forgotten s who p)
+          (same_trimmed t p stays));
     }

@@ -2,13 +2,13 @@
 -- law stands proved, in which each file leaves with its last name and its last open.
 use Rattle.std.proofs.Common.{◌≡◌, ℕ, Bool, List, [], ◌∷◌, refl, sym, ap, subst, ◌∙◌}
 use Rattle.lu_part.specs.declared.parts.Part.{Part}
-use Rattle.lu_machine.specs.Tree.{Tree}
-use Rattle.lu_machine.specs.Footprint as footprint
-use Rattle.lu_machine.specs.Footprint.{Operation, Every, Apart, forget}
-use Rattle.lu_machine.specs.Removal.{Item, Forgets, pick, ClearOf, UntouchedOf, FreeOf}
-use Rattle.lu_machine.specs.Removal.{Acts as Performed}
-use Rattle.lu_machine.specs.Trim.{trim, trimmed}
-use Rattle.lu_machine.proofs.Trim.{trimmed_removal}
+use Rattle.lu_spec_machine.specs.Tree.{Tree}
+use Rattle.lu_spec_machine.specs.Footprint as footprint
+use Rattle.lu_spec_machine.specs.Footprint.{Operation, Every, Apart, forget}
+use Rattle.lu_spec_machine.specs.Removal.{Item, Forgets, pick, ClearOf, UntouchedOf, FreeOf}
+use Rattle.lu_spec_machine.specs.Removal.{Acts as Performed}
+use Rattle.lu_spec_machine.specs.Trim.{trim, trimmed}
+use Rattle.lu_spec_machine.proofs.Trim.{trimmed_removal}
 use Rattle.lu_service.specs.declared.services.Kind.TheVariants.{Mdt}
 use Rattle.lu_service.specs.Contents.{Contents}
 use Rattle.lu_service.specs.Names.{names, fresh}
@@ -77,7 +77,8 @@ module _ (osts : ℕ) where
       abbrev gone : Contents
       gone = without names (fresh osts) keep past
 
-      both : CanGo names Mdt (fresh osts) keep past → Untouched names (fresh osts) keep past a → Both (of past).osts (of past).tree gone.osts gone.tree a
+      both : CanGo names Mdt (fresh osts) keep past → Untouched names (fresh osts) keep past a
+          → Both (of past).osts (of past).tree gone.osts gone.tree a
       both can h =
           of_contents (λ n t. Both n t gone.osts gone.tree a) past
           (of_contents (λ n t. Both osts (trimmed osts past) n t a) (pick keep past)

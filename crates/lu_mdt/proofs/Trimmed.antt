@@ -5,11 +5,11 @@ use Rattle.std.specs.Option.{unwrap_or}
 use Rattle.lu_base.specs.declared.ids.Fid.{Fid}
 use Rattle.lu_part.specs.declared.parts.Part.{Part}
 use Rattle.lu_part.specs.declared.parts.Part.TheVariants as part
-use Rattle.lu_machine.specs.Tree.{Tree, Inode, Opened, Attributes, no_file, same_fid}
-use Rattle.lu_machine.specs.Footprint as footprint
-use Rattle.lu_machine.specs.Footprint.{inode_of}
-use Rattle.lu_machine.specs.Trim.{is_alive, living, trim}
-use Rattle.lu_machine.proofs.Keys.{Told, fid_tells}
+use Rattle.lu_spec_machine.specs.Tree.{Tree, Inode, Opened, Attributes, no_file, same_fid}
+use Rattle.lu_spec_machine.specs.Footprint as footprint
+use Rattle.lu_spec_machine.specs.Footprint.{inode_of}
+use Rattle.lu_spec_machine.specs.Trim.{is_alive, living, trim}
+use Rattle.lu_spec_machine.proofs.Keys.{Told, fid_tells}
 use Rattle.lu_mdt.specs.Footprints.{HasLeft}
 
 -- ---- looked up among the living

@@ -6,10 +6,10 @@ use Rattle.lu_base.specs.declared.ids.Fid.{Fid}
 use Rattle.lu_base.specs.declared.ids.Who.{Who}
 use Rattle.lu_msg.specs.declared.answers.Answer.TheVariants.{Made}
 use Rattle.lu_part.specs.declared.parts.Part.{Part}
-use Rattle.lu_machine.specs.Tree.{Tree, Inode, same_fid, same_life}
-use Rattle.lu_machine.specs.Footprint as footprint
-use Rattle.lu_machine.specs.Footprint.{Operation, Apart, forget, inode_of}
-use Rattle.lu_machine.specs.Trim.{is_alive}
+use Rattle.lu_spec_machine.specs.Tree.{Tree, Inode, same_fid, same_life}
+use Rattle.lu_spec_machine.specs.Footprint as footprint
+use Rattle.lu_spec_machine.specs.Footprint.{Operation, Apart, forget, inode_of}
+use Rattle.lu_spec_machine.specs.Trim.{is_alive}
 use Rattle.lu_service.specs.Acts.{Agree}
 use Rattle.lu_service.specs.Contents.{Contents, Same}
 use Rattle.lu_service.specs.Names.{names, after, forgotten}

@@ -3,10 +3,10 @@ use Rattle.std.proofs.Common.{◌≡◌, refl, ap, subst, Bool, true, false, tru
 use Rattle.std.specs.Prelude.{if◌then◌else◌}
 use Rattle.lu_part.specs.declared.parts.Part.{Part}
 use Rattle.lu_part.specs.declared.parts.Part.TheVariants as part
-use Rattle.lu_machine.specs.Footprint as footprint
-use Rattle.lu_machine.specs.Footprint.{Operation, Every}
-use Rattle.lu_machine.proofs.Numbers.{number_is_free}
-use Rattle.lu_machine.proofs.Stated.{touched_decide, refusals_stay, unchanged_stay, transactions_grant_nothing}
+use Rattle.lu_spec_machine.specs.Footprint as footprint
+use Rattle.lu_spec_machine.specs.Footprint.{Operation, Every}
+use Rattle.lu_spec_machine.proofs.Numbers.{number_is_free}
+use Rattle.lu_spec_machine.proofs.Stated.{touched_decide, refusals_stay, unchanged_stay, transactions_grant_nothing}
 use Rattle.lu_service.specs.declared.services.Kind.{Kind}
 use Rattle.lu_service.specs.declared.services.Kind.TheVariants.{Mdt, Ost}
 use Rattle.lu_service.specs.Acts.{IsLawful, Agree, Alike}

@@ -1,5 +1,6 @@
 -- Where the first message stands that isn't spent, and what a post and a spending do to it.
-use Rattle.std.proofs.Common.{◌≡◌, ℕ, zero, suc, ◌+◌, ◌-◌, ◌<◌, ◌≤◌, Bool, true, false, not, List, [], ◌∷◌, length, get_or, Option, Some, None, refl, ap, subst, add-one, arith, inl, inr}
+use Rattle.std.proofs.Common.{◌≡◌, ℕ, zero, suc, ◌+◌, ◌-◌, ◌<◌, ◌≤◌, Bool, true, false, not, List, [], ◌∷◌, length, get_or, Option, Some}
+use Rattle.std.proofs.Common.{None, refl, ap, subst, add-one, arith, inl, inr}
 use Rattle.std.specs.List.{slice_get, position_or_len}
 use Rattle.std.specs.Prelude.{slice_set, IsSomeAnd}
 use Rattle.std.proofs.lemmas.Grind.{common_steps}
@@ -25,7 +26,8 @@ not_true true e = cc
 not_true false e = refl
 
 -- before the mark all are spent
-pub spent_before : (posts : List Posted) (place : ℕ) (post : Posted) → slice_get posts place ≡ Some post → place < mark posts → post.spent ≡ true
+pub spent_before : (posts : List Posted) (place : ℕ) (post : Posted) → slice_get posts place ≡ Some post → place < mark posts → post.spent
+    ≡ true
 spent_before posts place post found before =
     let fails = fails_before_first is_unspent posts place post before in
     let same : get_or posts place post ≡ post = get_or_from_slice_get posts place post post found in
@@ -40,7 +42,8 @@ unspent_at_mark posts post found =
     not_true post.spent (rw same at passes)
 
 -- from a place before which all are spent the mark is reached by steps over spent ones
-pub further : (posts : List Posted) (place : ℕ) (post : Posted) → place ≤ mark posts → slice_get posts place ≡ Some post → post.spent ≡ true → place + 1 ≤ mark posts
+pub further : (posts : List Posted) (place : ℕ) (post : Posted) → place ≤ mark posts → slice_get posts place ≡ Some post → post.spent ≡ true
+    → place + 1 ≤ mark posts
 further posts place post below found spent =
     elim (cases_lt place (mark posts)) [
       | inl before ↦ omega arith
@@ -50,7 +53,8 @@ further posts place post below found spent =
           absurd (cc)
     ]
 
-pub here : (posts : List Posted) (place : ℕ) (post : Posted) → place ≤ mark posts → slice_get posts place ≡ Some post → post.spent ≡ false → place ≡ mark posts
+pub here : (posts : List Posted) (place : ℕ) (post : Posted) → place ≤ mark posts → slice_get posts place ≡ Some post → post.spent ≡ false
+    → place ≡ mark posts
 here posts place post below found unspent =
     elim (cases_lt place (mark posts)) [
       | inl before ↦
@@ -73,9 +77,11 @@ mark_rises (first ∷ rest) zero post spent = grind (arith, common_steps)
 mark_rises (first ∷ rest) (suc place) post spent = grind (arith, common_steps, mark_rises rest place post spent)
 
 -- what is posted at a place and isn't spent
-unspent_at : (posts : List Posted) (place : ℕ) → IsSomeAnd (slice_get posts place) (λ post. post.spent ≡ false) → (mark posts ≤ place) × (place < length posts)
+unspent_at : (posts : List Posted) (place : ℕ) → IsSomeAnd (slice_get posts place) (λ post. post.spent ≡ false) → (mark posts ≤ place)
+    × (place < length posts)
 unspent_at posts place unspent = by (slice_get posts place) refl unspent where
-  by : (found : Option Posted) → slice_get posts place ≡ found → IsSomeAnd found (λ post. post.spent ≡ false) → (mark posts ≤ place) × (place < length posts)
+  by : (found : Option Posted) → slice_get posts place ≡ found → IsSomeAnd found (λ post. post.spent ≡ false) → (mark posts ≤ place)
+      × (place < length posts)
   by None e h = absurd h
   by (Some post) e h =
       elim (cases_lt place (mark posts)) [
@@ -108,7 +114,8 @@ none_unspent posts past number unspent =
     omega arith
 
 -- what `spend` gives where a message was posted
-pub spend_found : (posts : List Posted) (place : ℕ) (post : Posted) → slice_get posts place ≡ Some post → slice_set posts place (record { sent = post.sent; spent = true }) ≡ spend posts (place + 1)
+pub spend_found : (posts : List Posted) (place : ℕ) (post : Posted) → slice_get posts place ≡ Some post
+    → slice_set posts place (record { sent = post.sent; spent = true }) ≡ spend posts (place + 1)
 spend_found posts place post found =
     let e : place ≡ suc place - 1 = omega arith in
     rw (add-one, found) (ap (λ k. slice_set posts k (record { sent = post.sent; spent = true })) e)

@@ -1,6 +1,7 @@
 -- The messages that were posted, each spent or not, in the order of their numbers, which count from 1
 -- (this project's profile).
-use Rattle.std.specs.Prelude.{◌≡◌, ℕ, zero, suc, ◌-◌, Bool, true, false, not, List, Option, Some, None, IsSomeAnd, slice_get, slice_set, position, option_map}
+use Rattle.std.specs.Prelude.{◌≡◌, ℕ, zero, suc, ◌-◌, Bool, true, false, not, List, Option, Some, None, IsSomeAnd, slice_get, slice_set}
+use Rattle.std.specs.Prelude.{position, option_map}
 use Rattle.lu_net.specs.declared.links.Posted.{Posted}
 use Rattle.lu_net.specs.declared.links.Sent.{Sent}
 

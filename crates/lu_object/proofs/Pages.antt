@@ -1,18 +1,20 @@
 -- What a `get` reads depends on the bytes in its range alone, and on the part of the range that lies in the page; and it is
 -- what a read of that part gives, behind zeros from the page's start.
-use Rattle.std.proofs.Common.{◌≡◌, ℕ, zero, suc, ◌+◌, ◌-◌, ◌*◌, ◌/◌, ◌%◌, ◌<◌, ◌≤◌, max, min, Bool, true, false, cond, List, [], ◌∷◌, ◌++◌, Option, Some, None, refl, sym, ap, ◌∙◌, subst, arith}
+use Rattle.std.proofs.Common.{◌≡◌, ℕ, zero, suc, ◌+◌, ◌-◌, ◌*◌, ◌/◌, ◌%◌, ◌<◌, ◌≤◌, max, min, Bool, true, false, cond, List, [], ◌∷◌, ◌++◌}
+use Rattle.std.proofs.Common.{Option, Some, None, refl, sym, ap, ◌∙◌, subst, arith}
 use Rattle.std.specs.Prelude.{nat_le, ◌&&◌, ◌==◌, filter, replicate, if◌then◌else◌}
 use Rattle.std.proofs.lemmas.Bool.Decides.{nat_tests}
 use Rattle.lu_base.specs.declared.locks.Extent.{Extent}
-use Rattle.lu_machine.specs.Places.{Places, found_at, RisingFrom, is_in, inside, end_of}
-use Rattle.lu_machine.specs.Objects.{Object, page_size, page_extent, filled, content}
-use Rattle.lu_machine.proofs.Places.{found_inside, rising_inside, none_before, in_parts, in_whole, end_inside}
-use Rattle.lu_bytes.proofs.Rising.{same_map}
+use Rattle.lu_spec_machine.specs.Places.{Places, found_at, RisingFrom, is_in, inside, end_of}
+use Rattle.lu_spec_machine.specs.Objects.{Object, page_size, page_extent, filled, content}
+use Rattle.lu_spec_machine.proofs.Places.{found_inside, rising_inside, none_before, in_parts, in_whole, end_inside}
+use Rattle.lu_spec_bytes.proofs.Rising.{same_map}
 use Rattle.lu_object.specs.Reading.{bytes_from, read_from}
 use Rattle.lu_object.proofs.Looked.{looked, filled_looked, looked_gap}
 
 -- the same bytes in a range are one list
-pub same_inside : (extent : Extent) (o p : Object) → RisingFrom 0 o → RisingFrom 0 p → ((q : ℕ) → is_in extent q ≡ true → found_at o q ≡ found_at p q) → inside extent o ≡ inside extent p
+pub same_inside : (extent : Extent) (o p : Object) → RisingFrom 0 o → RisingFrom 0 p
+    → ((q : ℕ) → is_in extent q ≡ true → found_at o q ≡ found_at p q) → inside extent o ≡ inside extent p
 same_inside extent o p one two same =
     same_map extent.first (inside extent o) (inside extent p) (rising_inside 0 extent o one) (rising_inside 0 extent p two)
     (λ q h. found_inside extent o q ∙ by q (is_in extent q) refl ∙ sym (found_inside extent p q))
@@ -21,8 +23,10 @@ same_inside extent o p one two same =
     by q true is = same q is
     by q false is = refl
 
-pub same_content : (page : ℕ) (extent : Extent) (o p : Object) → RisingFrom 0 o → RisingFrom 0 p → ((q : ℕ) → is_in extent q ≡ true → found_at o q ≡ found_at p q) → content page extent o ≡ content page extent p
-same_content page extent o p one two same = ap (λ m. filled page_size (page * page_size) (inside (page_extent page) m)) (same_inside extent o p one two same)
+pub same_content : (page : ℕ) (extent : Extent) (o p : Object) → RisingFrom 0 o → RisingFrom 0 p
+    → ((q : ℕ) → is_in extent q ≡ true → found_at o q ≡ found_at p q) → content page extent o ≡ content page extent p
+same_content page extent o p one two same = ap (λ m. filled page_size (page * page_size) (inside (page_extent page) m))
+    (same_inside extent o p one two same)
 
 -- ---- the part of the range in the page
 
@@ -50,15 +54,19 @@ in_both a b q = by (nat_le a.first q) (nat_le q a.last) (nat_le b.first q) (nat_
     tests true false false w = refl
     tests false u v w = refl
 
-    by : (t u v w : Bool) → nat_le a.first q ≡ t → nat_le q a.last ≡ u → nat_le b.first q ≡ v → nat_le q b.last ≡ w → is_in (common a b) q ≡ (is_in a q && is_in b q)
+    by : (t u v w : Bool) → nat_le a.first q ≡ t → nat_le q a.last ≡ u → nat_le b.first q ≡ v → nat_le q b.last ≡ w → is_in (common a b) q
+        ≡ (is_in a q && is_in b q)
     by t u v w one two three four = rw (starts t v one three, ends u w two four, one, two, three, four) (tests t u v w)
 
-pub inside_common : (a b : Extent) (m : Places ℕ) → inside a (inside b m) ≡ inside a (inside (record { first = max a.first b.first; last = min a.last b.last }) m)
+pub inside_common : (a b : Extent) (m : Places ℕ) → inside a (inside b m)
+    ≡ inside a (inside (record { first = max a.first b.first; last = min a.last b.last }) m)
 inside_common a b [] = refl
 inside_common a b (e ∷ m) = by (is_in a e.0) (is_in b e.0) refl refl (inside_common a b m)
   where
-    by : (v w : Bool) → is_in a e.0 ≡ v → is_in b e.0 ≡ w → inside a (inside b m) ≡ inside a (inside (common a b) m) → inside a (inside b (e ∷ m)) ≡ inside a (inside (common a b) (e ∷ m))
-    by true true one two ih = let both : is_in (common a b) e.0 ≡ true = in_both a b e.0 ∙ rw (one, two) refl in rw (two, both, one) (ap (λ es. e ∷ es) ih)
+    by : (v w : Bool) → is_in a e.0 ≡ v → is_in b e.0 ≡ w → inside a (inside b m) ≡ inside a (inside (common a b) m)
+        → inside a (inside b (e ∷ m)) ≡ inside a (inside (common a b) (e ∷ m))
+    by true true one two ih = let both : is_in (common a b) e.0 ≡ true = in_both a b e.0 ∙ rw (one, two) refl
+        in rw (two, both, one) (ap (λ es. e ∷ es) ih)
     by true false one two ih = let both : is_in (common a b) e.0 ≡ false = in_both a b e.0 ∙ rw (one, two) refl in rw (two, both) ih
     by false true one two ih = let both : is_in (common a b) e.0 ≡ false = in_both a b e.0 ∙ rw one refl in rw (two, both, one) ih
     by false false one two ih = let both : is_in (common a b) e.0 ≡ false = in_both a b e.0 ∙ rw one refl in rw (two, both) ih
@@ -69,7 +77,8 @@ inside_within : (a b : Extent) (m : Places ℕ) → a.first ≤ b.first → b.la
 inside_within a b [] low high = refl
 inside_within a b (e ∷ m) low high = by (is_in b e.0) refl (inside_within a b m low high)
   where
-    by : (v : Bool) → is_in b e.0 ≡ v → inside a (inside b m) ≡ inside b m → inside a (cond v (e ∷ inside b m) (inside b m)) ≡ cond v (e ∷ inside b m) (inside b m)
+    by : (v : Bool) → is_in b e.0 ≡ v → inside a (inside b m) ≡ inside b m → inside a (cond v (e ∷ inside b m) (inside b m))
+        ≡ cond v (e ∷ inside b m) (inside b m)
     by true is ih =
         let parts = in_parts b e.0 is in
         let on : is_in a e.0 ≡ true = in_whole a e.0 (omega (arith, low, parts.0)) (omega (arith, high, parts.1)) in
@@ -92,7 +101,8 @@ some_end : (n : ℕ) (m : Object) → RisingFrom n m → (m ≡ [] → ⊥) → 
 some_end n [] h some = absurd (some refl)
 some_end n (e ∷ m) h some = omega (arith, h.0)
 
-module _ (part : Extent) (object : Object) (ordered : part.first ≤ part.last) (page : part.last / page_size ≡ part.first / page_size) (rises : RisingFrom 0 object) where
+module _ (part : Extent) (object : Object) (ordered : part.first ≤ part.last) (page : part.last / page_size ≡ part.first / page_size)
+    (rises : RisingFrom 0 object) where
   abbrev at : ℕ
   at = part.first / page_size
 
@@ -100,7 +110,8 @@ module _ (part : Extent) (object : Object) (ordered : part.first ≤ part.last) 
   count = part.last - part.first + 1
 
   same_part : inside (bytes_from part.first count) object ≡ inside part object
-  same_part = let ends : part.first + (part.last - part.first + 1 - 1) ≡ part.last = omega (arith, ordered) in ap (λ last. inside (record { first = part.first; last = last }) object) ends
+  same_part = let ends : part.first + (part.last - part.first + 1 - 1) ≡ part.last = omega (arith, ordered)
+      in ap (λ last. inside (record { first = part.first; last = last }) object) ends
 
   read_part : read_from part.first count object ≡ filled count part.first (inside part object)
   read_part = ap (filled count part.first) same_part
@@ -113,14 +124,16 @@ module _ (part : Extent) (object : Object) (ordered : part.first ≤ part.last) 
       let empty : inside part object ≡ [] = nothing_stands count part.first (inside part object) (omega arith) (sym read_part ∙ is) in
       ap (λ m. filled page_size (at * page_size) (inside (page_extent at) m)) empty
 
-  pub some_read : (read_from part.first count object ≡ [] → ⊥) → content at part object ≡ replicate (part.first % page_size) 0 ++ read_from part.first count object
+  pub some_read : (read_from part.first count object ≡ [] → ⊥) → content at part object ≡ replicate (part.first % page_size) 0
+      ++ read_from part.first count object
   some_read some =
       ap (filled page_size (at * page_size)) in_page
       ∙ filled_looked page_size (at * page_size) m rises_page
       ∙ ap (λ n. looked n (at * page_size) m) whole
       ∙ looked_gap (part.first % page_size) (end_of m - part.first) (at * page_size) m (subst (λ n. RisingFrom n m) start rises_part)
       ∙ ap (λ n. replicate (part.first % page_size) 0 ++ looked (end_of m - part.first) n m) (sym start)
-      ∙ ap (λ bs. replicate (part.first % page_size) 0 ++ bs) (sym (read_part ∙ filled_looked count part.first m rises_part ∙ ap (λ n. looked n part.first m) least))
+      ∙ ap (λ bs. replicate (part.first % page_size) 0 ++ bs) (sym
+      (read_part ∙ filled_looked count part.first m rises_part ∙ ap (λ n. looked n part.first m) least))
     where
       m : Object
       m = inside part object

@@ -2,8 +2,8 @@
 -- as 0 (POSIX.1, read after lseek past the end; where reading ends is this project's profile).
 use Rattle.std.specs.Prelude.{ℕ, ◌+◌, ◌-◌, List}
 use Rattle.lu_base.specs.declared.locks.Extent.{Extent}
-use Rattle.lu_machine.specs.Places.{inside}
-use Rattle.lu_machine.specs.Objects.{Object, filled}
+use Rattle.lu_spec_machine.specs.Places.{inside}
+use Rattle.lu_spec_machine.specs.Objects.{Object, filled}
 
 -- the offsets of so many bytes from an offset on, at least one
 abbrev pub bytes_from : ℕ → ℕ → Extent

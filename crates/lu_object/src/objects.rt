@@ -2,12 +2,12 @@
 
 ghost use Rattle.std.specs.Prelude.{◌≡◌, ◌≤◌, ◌+◌, ◌^◌, [], length, map, IfOk, IfSome, IfNone, OnOk, OnErr};
 ghost use Rattle.std.specs.Option.{unwrap_or};
-ghost use Rattle.lu_machine.specs.Places.{RisingFrom, inside, end_of};
-ghost use Rattle.lu_machine.specs.Objects.{put_bytes, cut_bytes, object_size};
+ghost use Rattle.lu_spec_machine.specs.Places.{RisingFrom, inside, end_of};
+ghost use Rattle.lu_spec_machine.specs.Objects.{put_bytes, cut_bytes, object_size};
 ghost use Rattle.lu_object.specs.Reading.{read_from};
 
 use lu_base::{Bytes, Extent, Memory};
-use lu_places::Places;
+use lu_page::Places;
 use std::alloc::Global;
 use std::marker::Model;
 
@@ -19,8 +19,8 @@ pub struct Object {
 }
 
 impl Model for Object {
-    ghost use Rattle.lu_machine.specs.Objects.{Object as SpecObject};
-    ghost use Rattle.lu_machine.specs.Places.{RisingFrom};
+    ghost use Rattle.lu_spec_machine.specs.Objects.{Object as SpecObject};
+    ghost use Rattle.lu_spec_machine.specs.Places.{RisingFrom};
 
     ghost Value = { SpecObject };
 

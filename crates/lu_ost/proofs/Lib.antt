@@ -1,3 +1,4 @@
 pub mod Lookups
 pub mod Removal
 pub mod Footprints
+pub mod Sound

@@ -4,7 +4,7 @@ use Rattle.lu_base.specs.declared.ids.Who.{Who}
 use Rattle.lu_base.specs.declared.locks.Extent.{Extent}
 use Rattle.lu_base.specs.declared.locks.Resource.{Resource}
 use Rattle.lu_lock.specs.Growth.{the_end}
-use Rattle.lu_machine.specs.Footprint.{Operation, Apart}
+use Rattle.lu_spec_machine.specs.Footprint.{Operation, Apart}
 use Rattle.lu_part.specs.declared.parts.Part.TheVariants.{Bytes}
 use Rattle.lu_service.specs.Contents.{Contents, SameBytes}
 use Rattle.lu_service.specs.Objects.{objects}

@@ -7,4 +7,5 @@ mod ranges;
 mod reading;
 pub mod theorems;
 
+pub use objects::Objects;
 pub use osts::Ost;

@@ -2,7 +2,7 @@
 
 ghost use Rattle.std.specs.Prelude.{◌≡◌, ◌≤◌, ◌+◌, ◌-◌, ◌*◌, max, length, IfOk};
 ghost use Rattle.lu_lock.specs.Growth.{the_end};
-ghost use Rattle.lu_machine.specs.Objects.{range, put_range, page_extent, page_size};
+ghost use Rattle.lu_spec_machine.specs.Objects.{range, put_range, page_extent, page_size};
 ghost use Rattle.lu_service.specs.Contents.{most_bytes};
 
 use super::reading::PAGE;

@@ -1,7 +1,7 @@
 //! What is read of a page.
 
 ghost use Rattle.std.specs.Prelude.{◌≡◌, ◌≤◌, ◌<◌, ◌/◌, ◌%◌, ◌++◌, replicate, length, IfOk, OnOk, OnErr};
-ghost use Rattle.lu_machine.specs.Objects.{content, page_size};
+ghost use Rattle.lu_spec_machine.specs.Objects.{content, page_size};
 ghost use Rattle.lu_service.specs.Contents.{most_bytes};
 
 use lu_base::{Bytes, Extent, Memory};

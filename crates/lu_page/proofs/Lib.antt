@@ -1,2 +1,9 @@
 pub mod Maps
 pub mod Slots
+pub mod Gaps
+pub mod Joined
+pub mod Steps
+pub mod Changed
+pub mod Laid
+pub mod Seen
+pub mod Parts

@@ -1,7 +1,7 @@
 -- What becomes of each item that stands somewhere: another item, or none.
 use Rattle.std.specs.Prelude.{ℕ, if◌then◌else◌, List, [], ◌∷◌, Option, Some, None}
 use Rattle.lu_base.specs.declared.locks.Extent.{Extent}
-use Rattle.lu_machine.specs.Places.{Places, is_in}
+use Rattle.lu_spec_machine.specs.Places.{Places, is_in}
 
 -- an item at a place, or none, in front
 abbrev pub with_item : {A : Type 0} → ℕ → Option A → Places A → Places A

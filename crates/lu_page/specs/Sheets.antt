@@ -1,7 +1,7 @@
 -- What a contract sees of a page: the position from which it starts, and what stands in its 4,096 positions.
 use Rattle.std.specs.Prelude.{ℕ, ◌+◌, List, [], ◌∷◌, Option}
-use Rattle.lu_machine.specs.Places.{Places, RisingFrom}
-use Rattle.lu_bytes.specs.Maps.{AllBelow}
+use Rattle.lu_spec_machine.specs.Places.{Places, RisingFrom}
+use Rattle.lu_spec_bytes.specs.Maps.{AllBelow}
 use Rattle.lu_page.specs.Edits.{with_item}
 
 pub record Sheet (A : Type 0) : Type 0 where

@@ -1,7 +1,7 @@
 //! A page of positions.
 
 ghost use Rattle.std.specs.Prelude.{◌≡◌, ◌≤◌, ◌+◌, ◌^◌, [], length, IfOk};
-ghost use Rattle.lu_machine.specs.Places.{found_at, laid};
+ghost use Rattle.lu_spec_machine.specs.Places.{found_at, laid};
 ghost use Rattle.lu_page.specs.Edits.{edited, edit_slot};
 ghost use Rattle.lu_page.specs.Sheets.{IsSheet};
 

@@ -1,9 +1,9 @@
 //! What a page is asked: what stands in a range of its positions.
 
 ghost use Rattle.std.specs.Prelude.{◌≡◌, ◌≤◌, ◌<◌, ◌+◌, ◌++◌, ◌^◌, ℕ, None, length, OnOk, IfOk};
-ghost use Rattle.lu_machine.specs.Places.{is_in, found_at, inside, end_of};
-ghost use Rattle.lu_bytes.specs.Maps.{AllBelow};
-ghost use Rattle.lu_bytes.specs.Runs.{first_position, run_at, found_run};
+ghost use Rattle.lu_spec_machine.specs.Places.{is_in, found_at, inside, end_of};
+ghost use Rattle.lu_spec_bytes.specs.Maps.{AllBelow};
+ghost use Rattle.lu_spec_bytes.specs.Runs.{first_position, run_at, found_run};
 
 use crate::page::{PAGE, Page};
 use lu_base::{Extent, Memory};

@@ -1,13 +1,15 @@
 -- What an answer takes away, by event.
-use Rattle.std.proofs.Common.{◌≡◌, ℕ, zero, suc, ◌+◌, ◌-◌, ◌<◌, ◌≤◌, ◌⊎◌, inl, inr, Bool, true, false, List, [], ◌∷◌, length, Option, Some, None, refl, sym, ap, subst, ◌∙◌, arith}
+use Rattle.std.proofs.Common.{◌≡◌, ℕ, zero, suc, ◌+◌, ◌-◌, ◌<◌, ◌≤◌, ◌⊎◌, inl, inr, Bool, true, false, List, [], ◌∷◌, length, Option, Some}
+use Rattle.std.proofs.Common.{None, refl, sym, ap, subst, ◌∙◌, arith}
 use Rattle.std.specs.Prelude.{nat_eq, nat_lt, ◌==◌, is_some, not, slice_index, if◌then◌else◌}
 use Rattle.std.proofs.lemmas.Bool.Decides.{nat_tests}
 use Rattle.std.proofs.lemmas.List.{length-map}
-use Rattle.lu_words.specs.declared.changes.Dirty.{Dirty}
-use Rattle.lu_words.specs.declared.changes.Flush.TheVariants.{Cut, Put}
-use Rattle.lu_machine.specs.Places.{Places, found_at, RisingFrom, below, laid}
-use Rattle.lu_machine.proofs.Places.{overlay, found_filter, found_laid, before_run, past_run, rising_below, rising_laid}
-use Rattle.lu_client_rows.specs.Patches.{Patch, Flying, CutFlies, BytesFly, fresh, sent, written, ended, cut_over, cut, flown, landed, acked_flight, acked}
+use Rattle.lu_spec_entries.specs.declared.changes.Dirty.{Dirty}
+use Rattle.lu_spec_entries.specs.declared.changes.Flush.TheVariants.{Cut, Put}
+use Rattle.lu_spec_machine.specs.Places.{Places, found_at, RisingFrom, below, laid}
+use Rattle.lu_spec_machine.proofs.Places.{overlay, found_filter, found_laid, before_run, past_run, rising_below, rising_laid}
+use Rattle.lu_spec_client.specs.Patches.{Patch, Flying, CutFlies, BytesFly, fresh, sent, written, ended, cut_over, cut, flown, landed}
+use Rattle.lu_spec_client.specs.Patches.{acked_flight, acked}
 use Rattle.lu_patch.specs.Changes.{Change, Write, CutTo, changed, changed_by, LeavesAt, LeaveAt}
 use Rattle.lu_patch.specs.ChangeLaws.{UntouchedLands, UnsentStays, WrittenStays}
 use Rattle.lu_patch.proofs.Landings.{at_rest, found_landed, fresh_at, sent_at}
@@ -40,10 +42,12 @@ module _ (q b : ℕ) where
   end_leaves zero p f = f
   end_leaves (suc n) p f = by (nat_lt q n) (nat_lt n q) (found_at p.dirty n) refl refl refl
     where
-      by : (v w : Bool) (x : Option Dirty) → nat_lt q n ≡ v → nat_lt n q ≡ w → found_at p.dirty n ≡ x → Flies q b (if is_some x then p else written n (0 ∷ []) p)
+      by : (v w : Bool) (x : Option Dirty) → nat_lt q n ≡ v → nat_lt n q ≡ w → found_at p.dirty n ≡ x
+          → Flies q b (if is_some x then p else written n (0 ∷ []) p)
       by v w (Some d) low high is = f
       by true w None low high is = write_leaves n (0 ∷ []) p (inl (grind (arith, nat_tests))) f
-      by false true None low high is = let less : n < q = grind (arith, nat_tests) in write_leaves n (0 ∷ []) p (inr (omega (arith, less))) f
+      by false true None low high is = let less : n < q = grind (arith, nat_tests)
+          in write_leaves n (0 ∷ []) p (inr (omega (arith, less))) f
       by false false None low high is =
           let same : q ≡ n = grind (arith, nat_tests) in
           absurd (cc (f.found, is, ap (λ k. found_at p.dirty k) same))
@@ -63,7 +67,8 @@ module _ (q b : ℕ) where
       again : (pending : Option ℕ) → Flies q b (record { pending = pending; dirty = below n p.dirty; flight = p.flight })
       again pending = record { flight = kept.flight; rises = kept.rises; found = kept.found }
 
-      longer : (v : Bool) → Flies q b (if v then ended n (record p { dirty = below n p.dirty }) else record { pending = Some n; dirty = below n p.dirty; flight = p.flight })
+      longer : (v : Bool) → Flies q b (if v then ended n (record p { dirty = below n p.dirty })
+          else record { pending = Some n; dirty = below n p.dirty; flight = p.flight })
       longer true = end_leaves n (record p { dirty = below n p.dirty }) kept
       longer false = again (Some n)
 
@@ -98,7 +103,8 @@ written_stays at bs p k rises less = by p.flight
     here : found_at (laid at (fresh bs) p.dirty) (at + k) ≡ Some (record { byte = slice_index bs k; flies = false })
     here = found_laid at (fresh bs) p.dirty (at + k) ∙ fresh_at at bs k (found_at p.dirty (at + k)) less
 
-    by : (flight : Option Flying) → found_at (acked_flight (written at bs p) flight).dirty (at + k) ≡ Some (record { byte = slice_index bs k; flies = false })
+    by : (flight : Option Flying) → found_at (acked_flight (written at bs p) flight).dirty (at + k)
+        ≡ Some (record { byte = slice_index bs k; flies = false })
     by None = here
     by (Some (CutFlies n)) = here
     by (Some BytesFly) = found_landed 0 (laid at (fresh bs) p.dirty) (at + k) (rising_laid at (fresh bs) p.dirty rises) ∙ ap at_rest here

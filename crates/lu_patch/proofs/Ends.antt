@@ -1,22 +1,24 @@
 -- Flushes come to an end, and the object is then what was seen.
-use Rattle.std.proofs.Common.{◌≡◌, ℕ, zero, suc, ◌+◌, ◌-◌, ◌%◌, ◌^◌, ◌<◌, ◌≤◌, inl, Bool, true, false, cond, List, [], ◌∷◌, ◌++◌, length, length-append, take, Option, Some, None, refl, sym, ap, subst, ◌∙◌, arith}
+use Rattle.std.proofs.Common.{◌≡◌, ℕ, zero, suc, ◌+◌, ◌-◌, ◌%◌, ◌^◌, ◌<◌, ◌≤◌, inl, Bool, true, false, cond, List, [], ◌∷◌, ◌++◌, length}
+use Rattle.std.proofs.Common.{length-append, take, Option, Some, None, refl, sym, ap, subst, ◌∙◌, arith}
 use Rattle.std.specs.Prelude.{nat_eq, nat_lt, nat_le, ◌==◌, ◌&&◌, ◌||◌, is_some, map, filter, not, if◌then◌else◌}
 use Rattle.std.proofs.lemmas.Bool.Decides.{nat_tests}
 use Rattle.std.proofs.lemmas.List.Elements.{filter-append}
 use Rattle.lu_base.specs.declared.locks.Extent.{Extent}
-use Rattle.lu_words.specs.declared.changes.Dirty.{Dirty}
-use Rattle.lu_machine.specs.Places.{Places, RisingFrom, below, from, laid, is_in, inside}
-use Rattle.lu_machine.specs.Objects.{Object}
-use Rattle.lu_machine.proofs.Places.{in_whole, rising_laid}
-use Rattle.lu_machine.proofs.Objects.{object_puts, object_cuts}
-use Rattle.lu_client_rows.specs.Bytes.{page_size, run_from, first_run}
-use Rattle.lu_client_rows.specs.Patches.{Patch, holds_extent, cut_extent, cut_within, bytes_of, flush_with, next_flush, has_change, sent, landed, other_cut, acked_flight, taken, acked}
+use Rattle.lu_spec_entries.specs.declared.changes.Dirty.{Dirty}
+use Rattle.lu_spec_machine.specs.Places.{Places, RisingFrom, below, from, laid, is_in, inside}
+use Rattle.lu_spec_machine.specs.Objects.{Object}
+use Rattle.lu_spec_machine.proofs.Places.{in_whole, rising_laid}
+use Rattle.lu_spec_machine.proofs.Objects.{object_puts, object_cuts}
+use Rattle.lu_spec_client.specs.Bytes.{page_size, run_from, first_run}
+use Rattle.lu_spec_client.specs.Patches.{Patch, holds_extent, cut_extent, cut_within, bytes_of, flush_with, next_flush, has_change, sent}
+use Rattle.lu_spec_client.specs.Patches.{landed, other_cut, acked_flight, taken, acked}
 use Rattle.lu_patch.specs.Sound.{NoneFlies, IsAtRest}
 use Rattle.lu_patch.specs.Seen.{seen}
 use Rattle.lu_patch.specs.WriteBack.{applied, flushed, object_flushed, flushed_by, object_by, left, Spares, whole}
 use Rattle.lu_patch.specs.WriteBackLaws.{FlushLowers, FlushesEnd, FlushesWriteWhatIsSeen}
-use Rattle.lu_bytes.specs.Maps.{AllBelow, IsMap}
-use Rattle.lu_bytes.proofs.Rising.{rising_filter, all_filter}
+use Rattle.lu_spec_bytes.specs.Maps.{AllBelow, IsMap}
+use Rattle.lu_spec_bytes.proofs.Rising.{rising_filter, all_filter}
 use Rattle.lu_patch.proofs.Maps.{around, all_on}
 use Rattle.lu_patch.proofs.Landings.{landed_run, none_flies, none_flies_landed}
 use Rattle.lu_patch.proofs.WriteBack.{cut_is_pending, flush_is_unseen}
@@ -34,16 +36,21 @@ count_first w e m = by (is_in w e.0)
     by true = omega arith
     by false = omega arith
 
-count_parts : (w : Extent) (at k : ℕ) (m : Places Dirty) → at ≤ k → length (inside w (below at m)) + length (inside w (from k m)) ≤ length (inside w m)
+count_parts : (w : Extent) (at k : ℕ) (m : Places Dirty) → at ≤ k
+    → length (inside w (below at m)) + length (inside w (from k m)) ≤ length (inside w m)
 count_parts w at k [] less = omega arith
 count_parts w at k (e ∷ m) less = by (nat_lt e.0 at) (nat_le k e.0) refl refl (count_parts w at k m less) (count_first w e m)
   where
-    by : (u v : Bool) → nat_lt e.0 at ≡ u → nat_le k e.0 ≡ v → length (inside w (below at m)) + length (inside w (from k m)) ≤ length (inside w m)
+    by : (u v : Bool) → nat_lt e.0 at ≡ u → nat_le k e.0 ≡ v → length (inside w (below at m)) + length (inside w (from k m)) ≤ length
+        (inside w m)
         → length (inside w (e ∷ m)) ≡ one (is_in w e.0) + length (inside w m)
-        → length (inside w (cond u (e ∷ below at m) (below at m))) + length (inside w (cond v (e ∷ from k m) (from k m))) ≤ length (inside w (e ∷ m))
+        → length (inside w (cond u (e ∷ below at m) (below at m))) + length (inside w (cond v (e ∷ from k m) (from k m))) ≤ length
+        (inside w (e ∷ m))
     by true true low high ih is = absurd (grind (arith, nat_tests, less))
-    by true false low high ih is = let first : length (inside w (e ∷ below at m)) ≡ one (is_in w e.0) + length (inside w (below at m)) = count_first w e (below at m) in omega (arith, ih, is, first)
-    by false true low high ih is = let first : length (inside w (e ∷ from k m)) ≡ one (is_in w e.0) + length (inside w (from k m)) = count_first w e (from k m) in omega (arith, ih, is, first)
+    by true false low high ih is = let first : length (inside w (e ∷ below at m)) ≡ one (is_in w e.0) + length (inside w (below at m)) =
+        count_first w e (below at m) in omega (arith, ih, is, first)
+    by false true low high ih is = let first : length (inside w (e ∷ from k m)) ≡ one (is_in w e.0) + length (inside w (from k m)) =
+        count_first w e (from k m) in omega (arith, ih, is, first)
     by false false low high ih is = omega (arith, ih, is)
 
 same_first : (d e : ℕ × Dirty) (a b : Places Dirty) → d ∷ a ≡ e ∷ b → d.0 ≡ e.0
@@ -61,7 +68,8 @@ count_less w at k (e ∷ m) d ds shape first less = by (is_in w e.0) refl shape 
     parts : length (inside w (below at m)) + length (inside w (from k m)) ≤ length (inside w m)
     parts = count_parts w at k m (omega (arith, less))
 
-    here : (e.0 ≡ at) → is_in w e.0 ≡ true → length (inside w (below at (e ∷ m))) + length (inside w (from k (e ∷ m))) < length (inside w (e ∷ m))
+    here : (e.0 ≡ at) → is_in w e.0 ≡ true → length (inside w (below at (e ∷ m))) + length (inside w (from k (e ∷ m))) < length
+        (inside w (e ∷ m))
     here same is =
         let low : nat_lt e.0 at ≡ false = grind (arith, nat_tests, same) in
         let high : nat_le k e.0 ≡ false = grind (arith, nat_tests, same, less) in
@@ -73,10 +81,13 @@ count_less w at k (e ∷ m) d ds shape first less = by (is_in w e.0) refl shape 
     past out ih = split (nat_lt e.0 at) (nat_le k e.0)
       where
         drops : (n : Places Dirty) → length (inside w (e ∷ n)) ≡ length (inside w n)
-        drops n = let is : length (inside w (e ∷ n)) ≡ 0 + length (inside w n) = count_first w e n ∙ ap (λ v. one v + length (inside w n)) out in omega (arith, is)
+        drops n = let is : length (inside w (e ∷ n)) ≡ 0 + length (inside w n) = count_first w e n
+            ∙ ap (λ v. one v + length (inside w n)) out in omega (arith, is)
 
-        split : (u v : Bool) → length (inside w (cond u (e ∷ below at m) (below at m))) + length (inside w (cond v (e ∷ from k m) (from k m))) < length (inside w (e ∷ m))
-        split true true = let a : _ = drops (below at m) in let b : _ = drops (from k m) in let c : _ = drops m in omega (arith, ih, a, b, c)
+        split : (u v : Bool) → length (inside w (cond u (e ∷ below at m) (below at m))) + length
+            (inside w (cond v (e ∷ from k m) (from k m))) < length (inside w (e ∷ m))
+        split true true = let a : _ = drops (below at m) in let b : _ = drops (from k m) in let c : _ = drops m
+            in omega (arith, ih, a, b, c)
         split true false = let a : _ = drops (below at m) in let c : _ = drops m in omega (arith, ih, a, c)
         split false true = let b : _ = drops (from k m) in let c : _ = drops m in omega (arith, ih, b, c)
         split false false = let c : _ = drops m in omega (arith, ih, c)
@@ -87,7 +98,8 @@ count_less w at k (e ∷ m) d ds shape first less = by (is_in w e.0) refl shape 
     by true is shape ih = here (same_first e d (inside w m) ds shape ∙ first) is
     by false is shape ih = past is (ih shape first less)
 
-count_around : (w : Extent) (at n : ℕ) (m : Places Dirty) → length (inside w (around at n m)) ≡ length (inside w (below at m)) + length (inside w (from (at + n) m))
+count_around : (w : Extent) (at n : ℕ) (m : Places Dirty) → length (inside w (around at n m))
+    ≡ length (inside w (below at m)) + length (inside w (from (at + n) m))
 count_around w at n m =
     ap length (filter-append (λ (e : ℕ × Dirty). is_in w e.0) (below at m) (from (at + n) m))
     ∙ length-append (inside w (below at m)) (inside w (from (at + n) m))
@@ -118,14 +130,23 @@ module _ (within : Extent) (p : Patch) (rest : IsAtRest p) where
       by (Some n) m = (refl, record { map = rest.1.map; flies = none_flies p rest })
       by None [] = subst (λ f. IsAtRest (acked_flight p f)) (sym rest.0) rest
       by None (e ∷ m) =
-          let bs : List ℕ = bytes_of (take (page_size - e.0 % page_size) (run_from e.0 (e ∷ m))) in
-          (refl, record { map = landed_map e.0 bs p.dirty rest.1.map (none_flies p rest); flies = none_flies_landed (laid e.0 (sent bs) p.dirty) })
+          let bs : List ℕ = bytes_of (take (page_size - e.0 % page_size) (run_from e.0 (e ∷ m))) in (
+            refl,
+            record {
+              map = landed_map e.0 bs p.dirty rest.1.map (none_flies p rest);
+              flies =
+                  none_flies_landed (laid e.0 (sent bs) p.dirty);
+            },
+          )
 
-  put_lowers : (e : ℕ × Dirty) (m : Places Dirty) (bs : List ℕ) → 0 < length bs → inside within p.dirty ≡ e ∷ m → length (inside within (landed (laid e.0 (sent bs) p.dirty))) < length (e ∷ m)
+  put_lowers : (e : ℕ × Dirty) (m : Places Dirty) (bs : List ℕ) → 0 < length bs → inside within p.dirty ≡ e ∷ m
+      → length (inside within (landed (laid e.0 (sent bs) p.dirty))) < length (e ∷ m)
   put_lowers e m bs some shape =
-      let is : length (inside within (landed (laid e.0 (sent bs) p.dirty))) ≡ length (inside within (below e.0 p.dirty)) + length (inside within (from (e.0 + length bs) p.dirty)) =
+      let is : length (inside within (landed (laid e.0 (sent bs) p.dirty)))
+      ≡ length (inside within (below e.0 p.dirty)) + length (inside within (from (e.0 + length bs) p.dirty)) =
       ap (λ r. length (inside within r)) (landed_run e.0 bs p.dirty (none_flies p rest)) ∙ count_around within e.0 (length bs) p.dirty in
-      let less : length (inside within (below e.0 p.dirty)) + length (inside within (from (e.0 + length bs) p.dirty)) < length (inside within p.dirty) =
+      let less : length (inside within (below e.0 p.dirty)) + length (inside within (from (e.0 + length bs) p.dirty)) < length
+      (inside within p.dirty) =
       count_less within e.0 (e.0 + length bs) p.dirty e m shape refl (omega (arith, some)) in
       let all : length (inside within p.dirty) ≡ length (e ∷ m) = ap length shape in
       omega (arith, is, less, all)
@@ -133,7 +154,8 @@ module _ (within : Extent) (p : Patch) (rest : IsAtRest p) where
   flush_lowers : has_change within p ≡ true → left within (flushed within p) < left within p
   flush_lowers some = by (cut_within within p.pending) (inside within p.dirty) refl refl some
     where
-      by : (c : Option ℕ) (m : Places Dirty) → cut_within within p.pending ≡ c → inside within p.dirty ≡ m → (is_some c || is_some (first_run m)) ≡ true
+      by : (c : Option ℕ) (m : Places Dirty) → cut_within within p.pending ≡ c → inside within p.dirty ≡ m
+          → (is_some c || is_some (first_run m)) ≡ true
           → left within (acked (taken (flush_with c m) p)) < (if is_some c then 1 else 0) + length m
       by (Some n) m is shape some =
           let gone : other_cut n p.pending ≡ None = cut_gone n p.pending (cut_is_pending within p.pending n is) in
@@ -149,7 +171,8 @@ module _ (within : Extent) (p : Patch) (rest : IsAtRest p) where
       by None [] is shape some = absurd (cc (some))
       by None (e ∷ m) is shape some =
           let bs : List ℕ = bytes_of (take (page_size - e.0 % page_size) (run_from e.0 (e ∷ m))) in
-          let lower : length (inside within (landed (laid e.0 (sent bs) p.dirty))) < length (e ∷ m) = put_lowers e m bs (run_some (page_size - e.0 % page_size) e m (omega arith)) shape in
+          let lower : length (inside within (landed (laid e.0 (sent bs) p.dirty))) < length (e ∷ m) =
+          put_lowers e m bs (run_some (page_size - e.0 % page_size) e m (omega arith)) shape in
           rw is (omega (arith, lower))
 
   -- where no change is left
@@ -164,7 +187,8 @@ module _ (within : Extent) (p : Patch) (rest : IsAtRest p) where
   unchanged : has_change within p ≡ false → left within (flushed within p) ≤ 0
   unchanged none = by (cut_within within p.pending) (inside within p.dirty) refl refl none
     where
-      by : (c : Option ℕ) (m : Places Dirty) → cut_within within p.pending ≡ c → inside within p.dirty ≡ m → (is_some c || is_some (first_run m)) ≡ false
+      by : (c : Option ℕ) (m : Places Dirty) → cut_within within p.pending ≡ c → inside within p.dirty ≡ m
+          → (is_some c || is_some (first_run m)) ≡ false
           → left within (acked (taken (flush_with c m) p)) ≤ 0
       by (Some n) m is shape none = absurd (cc (none))
       by None (e ∷ m) is shape none = absurd (cc (none))
@@ -184,7 +208,8 @@ flush_lowers_left within p rest some = record { lowers = flush_lowers within p r
 
 pub flushes_end : FlushesEnd
 flushes_end within p zero rest less = none_left within p rest less
-flushes_end within p (suc k) rest less = flushes_end within (flushed within p) k (flush_rests within p rest) (flush_left within p rest k less)
+flushes_end within p (suc k) rest less = flushes_end within (flushed within p) k (flush_rests within p rest)
+    (flush_left within p rest k less)
 
 -- ---- a lock on everything
 
@@ -214,7 +239,8 @@ bytes_unseen (e ∷ m) h none = absurd (by (is_in whole e.0) (in_whole whole e.0
 all_written : (p : Patch) (object : Object) → AllBelow (2 ^ 62) p.dirty → left whole p ≤ 0 → object ≡ seen p object
 all_written p object fits none = by (cut_within whole p.pending) (inside whole p.dirty) refl refl none
   where
-    by : (c : Option ℕ) (m : Places Dirty) → cut_within whole p.pending ≡ c → inside whole p.dirty ≡ m → (if is_some c then 1 else 0) + length m ≤ 0 → object ≡ seen p object
+    by : (c : Option ℕ) (m : Places Dirty) → cut_within whole p.pending ≡ c → inside whole p.dirty ≡ m
+        → (if is_some c then 1 else 0) + length m ≤ 0 → object ≡ seen p object
     by (Some n) m is shape none = absurd (omega (arith, none))
     by None (e ∷ m) is shape none = absurd (omega (arith, none))
     by None [] is shape none = rw (cut_unseen p.pending is, bytes_unseen p.dirty fits shape) refl
@@ -230,5 +256,6 @@ object_rises within p object h = by (cut_within within p.pending) (inside within
 pub flushes_write_what_is_seen : FlushesWriteWhatIsSeen
 flushes_write_what_is_seen p object zero rest rising less = all_written p object rest.1.map.below less
 flushes_write_what_is_seen p object (suc k) rest rising less =
-    flushes_write_what_is_seen (flushed whole p) (object_flushed whole p object) k (flush_rests whole p rest) (object_rises whole p object rising) (flush_left whole p rest k less)
+    flushes_write_what_is_seen (flushed whole p) (object_flushed whole p object) k (flush_rests whole p rest)
+    (object_rises whole p object rising) (flush_left whole p rest k less)
     ∙ flush_is_unseen whole p object rest rising (spares_whole p.pending)

@@ -1,14 +1,15 @@
 -- What an answer leaves of the dirty bytes.
-use Rattle.std.proofs.Common.{◌≡◌, ℕ, zero, suc, ◌+◌, ◌-◌, ◌<◌, ◌≤◌, Bool, true, false, cond, List, [], ◌∷◌, ◌++◌, length, Option, Some, None, refl, sym, ap, subst, ◌∙◌, arith}
+use Rattle.std.proofs.Common.{◌≡◌, ℕ, zero, suc, ◌+◌, ◌-◌, ◌<◌, ◌≤◌, Bool, true, false, cond, List, [], ◌∷◌, ◌++◌, length, Option, Some}
+use Rattle.std.proofs.Common.{None, refl, sym, ap, subst, ◌∙◌, arith}
 use Rattle.std.specs.Prelude.{nat_eq, nat_lt, nat_le, map, filter, not, slice_index, if◌then◌else◌}
 use Rattle.std.proofs.lemmas.Bool.{eq-eqb}
 use Rattle.std.proofs.lemmas.Bool.Decides.{nat_tests}
 use Rattle.std.proofs.lemmas.List.{length-map}
 use Rattle.std.proofs.lemmas.List.Elements.{filter-append}
-use Rattle.lu_words.specs.declared.changes.Dirty.{Dirty}
-use Rattle.lu_machine.specs.Places.{Places, found_at, RisingFrom, below, from, placed, laid}
-use Rattle.lu_machine.proofs.Places.{overlay, found_laid, none_before}
-use Rattle.lu_client_rows.specs.Patches.{Patch, fresh, sent, landed}
+use Rattle.lu_spec_entries.specs.declared.changes.Dirty.{Dirty}
+use Rattle.lu_spec_machine.specs.Places.{Places, found_at, RisingFrom, below, from, placed, laid}
+use Rattle.lu_spec_machine.proofs.Places.{overlay, found_laid, none_before}
+use Rattle.lu_spec_client.specs.Patches.{Patch, fresh, sent, landed}
 use Rattle.lu_patch.specs.Sound.{NoneFlies, FliesUnder, IsAtRest}
 use Rattle.lu_patch.proofs.Maps.{around}
 
@@ -31,7 +32,8 @@ found_landed n (e ∷ m) q h = by (nat_eq q e.0) (not e.1.flies) refl refl (foun
     by false true here rest ih = rw here ih
     by false false here flies ih = ih
 
-pub fresh_at : (at : ℕ) (bs : List ℕ) (k : ℕ) (x : Option Dirty) → k < length bs → overlay at (fresh bs) (at + k) x ≡ Some (record { byte = slice_index bs k; flies = false })
+pub fresh_at : (at : ℕ) (bs : List ℕ) (k : ℕ) (x : Option Dirty) → k < length bs → overlay at (fresh bs) (at + k) x
+    ≡ Some (record { byte = slice_index bs k; flies = false })
 fresh_at at [] k x less = absurd (omega (arith, less))
 fresh_at at (b ∷ bs) zero x less = let test : nat_eq (at + 0) at ≡ true = eq-eqb (at + 0) at (omega arith) in rw test refl
 fresh_at at (b ∷ bs) (suc k) x less =
@@ -39,7 +41,8 @@ fresh_at at (b ∷ bs) (suc k) x less =
     let moved : at + suc k ≡ at + 1 + k = omega arith in
     rw test (ap (λ q. overlay (at + 1) (fresh bs) q x) moved ∙ fresh_at (at + 1) bs k x (omega (arith, less)))
 
-pub sent_at : (at : ℕ) (bs : List ℕ) (k : ℕ) (x : Option Dirty) → k < length bs → overlay at (sent bs) (at + k) x ≡ Some (record { byte = slice_index bs k; flies = true })
+pub sent_at : (at : ℕ) (bs : List ℕ) (k : ℕ) (x : Option Dirty) → k < length bs → overlay at (sent bs) (at + k) x
+    ≡ Some (record { byte = slice_index bs k; flies = true })
 sent_at at [] k x less = absurd (omega (arith, less))
 sent_at at (b ∷ bs) zero x less = let test : nat_eq (at + 0) at ≡ true = eq-eqb (at + 0) at (omega arith) in rw test refl
 sent_at at (b ∷ bs) (suc k) x less =
@@ -84,8 +87,11 @@ landed_sent at (b ∷ bs) = landed_sent (at + 1) bs
 pub landed_run : (at : ℕ) (bs : List ℕ) (m : Places Dirty) → NoneFlies m → landed (laid at (sent bs) m) ≡ around at (length bs) m
 landed_run at bs m rest =
     filter-append (λ (e : ℕ × Dirty). not e.1.flies) (below at m) (placed at (sent bs) ++ from (at + length (sent bs)) m)
-    ∙ ap (λ r. landed (below at m) ++ r) (filter-append (λ (e : ℕ × Dirty). not e.1.flies) (placed at (sent bs)) (from (at + length (sent bs)) m))
+    ∙ ap (λ r. landed (below at m) ++ r) (filter-append (λ (e : ℕ × Dirty). not e.1.flies) (placed at (sent bs))
+    (from (at + length (sent bs)) m))
     ∙ ap (λ r. landed (below at m) ++ (r ++ landed (from (at + length (sent bs)) m))) (landed_sent at bs)
-    ∙ ap (λ r. r ++ landed (from (at + length (sent bs)) m)) (landed_rest (below at m) (none_flies_filter (λ (e : ℕ × Dirty). nat_lt e.0 at) m rest))
-    ∙ ap (λ r. below at m ++ r) (landed_rest (from (at + length (sent bs)) m) (none_flies_filter (λ (e : ℕ × Dirty). nat_le (at + length (sent bs)) e.0) m rest))
+    ∙ ap (λ r. r ++ landed (from (at + length (sent bs)) m)) (landed_rest (below at m)
+    (none_flies_filter (λ (e : ℕ × Dirty). nat_lt e.0 at) m rest))
+    ∙ ap (λ r. below at m ++ r) (landed_rest (from (at + length (sent bs)) m)
+    (none_flies_filter (λ (e : ℕ × Dirty). nat_le (at + length (sent bs)) e.0) m rest))
     ∙ ap (λ n. below at m ++ from (at + n) m) (length-map bs (λ b. record { byte = b; flies = true }))

@@ -1,14 +1,15 @@
 -- What is seen through a patch, position by position, and its size.
-use Rattle.std.proofs.Common.{◌≡◌, ◌≢◌, ℕ, zero, suc, ◌+◌, ◌-◌, ◌<◌, ◌≤◌, ◌⊎◌, inl, inr, Bool, true, false, List, [], ◌∷◌, Option, Some, None, refl, sym, ap, subst, ◌∙◌, arith}
+use Rattle.std.proofs.Common.{◌≡◌, ◌≢◌, ℕ, zero, suc, ◌+◌, ◌-◌, ◌<◌, ◌≤◌, ◌⊎◌, inl, inr, Bool, true, false, List, [], ◌∷◌, Option, Some}
+use Rattle.std.proofs.Common.{None, refl, sym, ap, subst, ◌∙◌, arith}
 use Rattle.std.specs.Prelude.{nat_eq, nat_lt, max, if◌then◌else◌, IfSome}
 use Rattle.std.specs.Option.{unwrap_or}
 use Rattle.std.proofs.lemmas.Bool.Decides.{nat_tests}
-use Rattle.lu_words.specs.declared.changes.Dirty.{Dirty}
-use Rattle.lu_machine.specs.Places.{Places, found_at, RisingFrom, end_of}
-use Rattle.lu_machine.specs.Objects.{Object, put_bytes, cut_bytes, object_size}
-use Rattle.lu_machine.proofs.Places.{or_else, found_laid}
-use Rattle.lu_machine.proofs.Objects.{object_puts, object_cuts}
-use Rattle.lu_client_rows.specs.Patches.{Patch, base, cut_at, over_at, reads_at, size_over}
+use Rattle.lu_spec_entries.specs.declared.changes.Dirty.{Dirty}
+use Rattle.lu_spec_machine.specs.Places.{Places, found_at, RisingFrom, end_of}
+use Rattle.lu_spec_machine.specs.Objects.{Object, put_bytes, cut_bytes, object_size}
+use Rattle.lu_spec_machine.proofs.Places.{or_else, found_laid}
+use Rattle.lu_spec_machine.proofs.Objects.{object_puts, object_cuts}
+use Rattle.lu_spec_client.specs.Patches.{Patch, base, cut_at, over_at, reads_at, size_over}
 use Rattle.lu_patch.specs.Seen.{cut_by, put_on, seen}
 use Rattle.lu_patch.specs.SeenLaws.{byte_of, ReadsWhatIsSeen, ReadsWhatIsKnown, SizeIsSeen}
 use Rattle.lu_patch.proofs.Maps.{end_laid}
@@ -17,12 +18,14 @@ abbrev pub byte_in : Option Dirty → Option ℕ
 byte_in None = None
 byte_in (Some d) = Some d.byte
 
-pub found_put_on : (m : Places Dirty) (object : Object) (q : ℕ) → found_at (put_on m object) q ≡ or_else (byte_in (found_at m q)) (found_at object q)
+pub found_put_on : (m : Places Dirty) (object : Object) (q : ℕ) → found_at (put_on m object) q
+    ≡ or_else (byte_in (found_at m q)) (found_at object q)
 found_put_on [] object q = refl
 found_put_on (e ∷ m) object q = found_laid e.0 (e.1.byte ∷ []) (put_on m object) q ∙ by (nat_eq q e.0) (found_put_on m object q)
   where
     by : (v : Bool) → found_at (put_on m object) q ≡ or_else (byte_in (found_at m q)) (found_at object q)
-        → (if v then Some e.1.byte else found_at (put_on m object) q) ≡ or_else (byte_in (if v then Some e.1 else found_at m q)) (found_at object q)
+        → (if v then Some e.1.byte else found_at (put_on m object) q)
+        ≡ or_else (byte_in (if v then Some e.1 else found_at m q)) (found_at object q)
     by true ih = refl
     by false ih = ih
 
@@ -45,7 +48,8 @@ cut_reads n q object less = by (nat_lt (q + 1) n) (found_at object q) refl refl
   where
     by : (v : Bool) (x : Option ℕ) → nat_lt (q + 1) n ≡ v → found_at object q ≡ x → byte_of (cut_bytes n object) q ≡ byte_of object q
     by true x far is = ap (λ y. unwrap_or y 0) ((object_cuts n object).leaves q (grind (arith, nat_tests)))
-    by false None far is = ap (λ y. unwrap_or y 0) ((object_cuts n object).zero q (grind (arith, nat_tests, less)) is) ∙ sym (ap (λ y. unwrap_or y 0) is)
+    by false None far is = ap (λ y. unwrap_or y 0) ((object_cuts n object).zero q (grind (arith, nat_tests, less)) is)
+        ∙ sym (ap (λ y. unwrap_or y 0) is)
     by false (Some b) far is = ap (λ y. unwrap_or y 0) ((object_cuts n object).keeps q b less is) ∙ sym (ap (λ y. unwrap_or y 0) is)
 
 cut_reads_at : (pending : Option ℕ) (object : Object) (q : ℕ) (known : Option ℕ)
@@ -53,7 +57,8 @@ cut_reads_at : (pending : Option ℕ) (object : Object) (q : ℕ) (known : Optio
 cut_reads_at None object q known h = h
 cut_reads_at (Some n) object q known h = by (nat_lt q n) known refl h
   where
-    by : (v : Bool) (known : Option ℕ) → nat_lt q n ≡ v → IfSome known (λ b. b ≡ byte_of object q) → IfSome (if v then known else Some 0) (λ b. b ≡ byte_of (cut_bytes n object) q)
+    by : (v : Bool) (known : Option ℕ) → nat_lt q n ≡ v → IfSome known (λ b. b ≡ byte_of object q)
+        → IfSome (if v then known else Some 0) (λ b. b ≡ byte_of (cut_bytes n object) q)
     by true None less h = h
     by true (Some b) less h = h ∙ sym (cut_reads n q object (grind (arith, nat_tests)))
     by false known less h = sym (ap (λ y. unwrap_or y 0) ((object_cuts n object).drops q (grind (arith, nat_tests))))

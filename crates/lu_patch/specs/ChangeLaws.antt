@@ -1,9 +1,9 @@
 -- Laws of the answer to a flush: it takes away what flies and wasn't touched since, by event and not by value.
 use Rattle.std.specs.Prelude.{◌≡◌, ℕ, ◌+◌, ◌<◌, List, Some, None, false, length, slice_index}
-use Rattle.lu_words.specs.declared.changes.Dirty.{Dirty}
-use Rattle.lu_words.specs.declared.changes.Flush.TheVariants.{Cut, Put}
-use Rattle.lu_machine.specs.Places.{found_at, RisingFrom}
-use Rattle.lu_client_rows.specs.Patches.{Patch, written, cut, flown, acked}
+use Rattle.lu_spec_entries.specs.declared.changes.Dirty.{Dirty}
+use Rattle.lu_spec_entries.specs.declared.changes.Flush.TheVariants.{Cut, Put}
+use Rattle.lu_spec_machine.specs.Places.{found_at, RisingFrom}
+use Rattle.lu_spec_client.specs.Patches.{Patch, written, cut, flown, acked}
 use Rattle.lu_patch.specs.Changes.{Change, changed_by, LeaveAt}
 
 -- bytes that no change touched while they flew are gone
@@ -27,4 +27,5 @@ OtherCutStays = (n other : ℕ) (p : Patch) → p.pending ≡ Some n → other <
 
 -- what wasn't in flight stays
 abbrev pub UnsentStays : Type 0
-UnsentStays = (p : Patch) (q : ℕ) (d : Dirty) → RisingFrom 0 p.dirty → found_at p.dirty q ≡ Some d → d.flies ≡ false → found_at (acked p).dirty q ≡ Some d
+UnsentStays = (p : Patch) (q : ℕ) (d : Dirty) → RisingFrom 0 p.dirty → found_at p.dirty q ≡ Some d → d.flies ≡ false
+    → found_at (acked p).dirty q ≡ Some d

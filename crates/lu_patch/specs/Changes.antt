@@ -1,6 +1,6 @@
 -- Writes and cuts that come while a flush is under way, and the positions that they leave alone.
 use Rattle.std.specs.Prelude.{ℕ, ◌+◌, ◌<◌, ◌≤◌, ◌⊎◌, List, [], ◌∷◌, length}
-use Rattle.lu_client_rows.specs.Patches.{Patch, written, cut}
+use Rattle.lu_spec_client.specs.Patches.{Patch, written, cut}
 
 pub data Change : Type 0 where
   Write : (at : ℕ) (bytes : List ℕ) → Change

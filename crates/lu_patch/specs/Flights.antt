@@ -1,9 +1,9 @@
 -- What is under way, as a patch keeps it: the bytes that fly lie in a range, so that an answer looks at that range alone.
 use Rattle.std.specs.Prelude.{◌≡◌, ◌<◌, ◌≤◌, ℕ, true, [], ◌∷◌, Option, Some, None}
-use Rattle.lu_words.specs.declared.changes.Dirty.{Dirty}
-use Rattle.lu_machine.specs.Places.{Places}
-use Rattle.lu_bytes.specs.Maps.{IsMap}
-use Rattle.lu_client_rows.specs.Patches.{Flying, CutFlies, BytesFly}
+use Rattle.lu_spec_entries.specs.declared.changes.Dirty.{Dirty}
+use Rattle.lu_spec_machine.specs.Places.{Places}
+use Rattle.lu_spec_bytes.specs.Maps.{IsMap}
+use Rattle.lu_spec_client.specs.Patches.{Flying, CutFlies, BytesFly}
 use Rattle.lu_patch.specs.declared.flight.Flight.{Flight}
 use Rattle.lu_patch.specs.declared.flight.Flight.TheVariants.{Cut, Bytes}
 use Rattle.lu_patch.specs.Sound.{NoneFlies}

@@ -1,10 +1,10 @@
 -- An object as a client sees it through its patch: the object after the pending cut, and then the dirty bytes
 -- (Wang et al., Understanding Lustre Filesystem Internals, the client's cache of dirty pages; POSIX.1, read after write).
 use Rattle.std.specs.Prelude.{ℕ, List, [], ◌∷◌, Option, Some, None}
-use Rattle.lu_words.specs.declared.changes.Dirty.{Dirty}
-use Rattle.lu_machine.specs.Places.{Places}
-use Rattle.lu_machine.specs.Objects.{Object, put_bytes, cut_bytes}
-use Rattle.lu_client_rows.specs.Patches.{Patch}
+use Rattle.lu_spec_entries.specs.declared.changes.Dirty.{Dirty}
+use Rattle.lu_spec_machine.specs.Places.{Places}
+use Rattle.lu_spec_machine.specs.Objects.{Object, put_bytes, cut_bytes}
+use Rattle.lu_spec_client.specs.Patches.{Patch}
 
 abbrev pub cut_by : Option ℕ → Object → Object
 cut_by None object = object

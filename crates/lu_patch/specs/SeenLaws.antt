@@ -2,9 +2,9 @@
 -- client's own changes act on what it sees.
 use Rattle.std.specs.Prelude.{◌≡◌, ◌≢◌, ℕ, List, Option, Some, None, IfSome}
 use Rattle.std.specs.Option.{unwrap_or}
-use Rattle.lu_machine.specs.Places.{found_at, RisingFrom}
-use Rattle.lu_machine.specs.Objects.{Object, put_bytes, cut_bytes, object_size}
-use Rattle.lu_client_rows.specs.Patches.{Patch, written, cut, reads_at, size_over}
+use Rattle.lu_spec_machine.specs.Places.{found_at, RisingFrom}
+use Rattle.lu_spec_machine.specs.Objects.{Object, put_bytes, cut_bytes, object_size}
+use Rattle.lu_spec_client.specs.Patches.{Patch, written, cut, reads_at, size_over}
 use Rattle.lu_patch.specs.Seen.{seen}
 
 -- a byte as it is read: 0 where it is absent
@@ -27,7 +27,8 @@ SizeIsSeen = (p : Patch) (object : Object) → size_over (object_size object) p 
 
 -- a client's own writes and cuts change what it sees as they change an object
 abbrev pub WritesWhatIsSeen : Type 0
-WritesWhatIsSeen = (at : ℕ) (bytes : List ℕ) (p : Patch) (object : Object) → RisingFrom 0 object → seen (written at bytes p) object ≡ put_bytes at bytes (seen p object)
+WritesWhatIsSeen = (at : ℕ) (bytes : List ℕ) (p : Patch) (object : Object) → RisingFrom 0 object → seen (written at bytes p) object
+    ≡ put_bytes at bytes (seen p object)
 
 abbrev pub CutsWhatIsSeen : Type 0
 CutsWhatIsSeen = (n : ℕ) (p : Patch) (object : Object) → RisingFrom 0 object → seen (cut n p) object ≡ cut_bytes n (seen p object)

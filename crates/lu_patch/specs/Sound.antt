@@ -1,9 +1,9 @@
 -- What every patch keeps: its bytes stand in rising position, and a byte flies only while bytes are under way.
 use Rattle.std.specs.Prelude.{◌≡◌, false, [], ◌∷◌, Option, Some, None}
-use Rattle.lu_words.specs.declared.changes.Dirty.{Dirty}
-use Rattle.lu_machine.specs.Places.{Places}
-use Rattle.lu_bytes.specs.Maps.{IsMap}
-use Rattle.lu_client_rows.specs.Patches.{Patch, Flying, CutFlies, BytesFly}
+use Rattle.lu_spec_entries.specs.declared.changes.Dirty.{Dirty}
+use Rattle.lu_spec_machine.specs.Places.{Places}
+use Rattle.lu_spec_bytes.specs.Maps.{IsMap}
+use Rattle.lu_spec_client.specs.Patches.{Patch, Flying, CutFlies, BytesFly}
 
 -- no byte was sent that isn't answered
 abbrev pub NoneFlies : Places Dirty → Type 0

@@ -2,10 +2,10 @@
 -- flushes under a lock, each sent, done at the target and acknowledged before the next.
 use Rattle.std.specs.Prelude.{◌≡◌, ℕ, zero, suc, ◌+◌, ◌-◌, ◌^◌, ◌<◌, true, ◌⊎◌, if◌then◌else◌, Option, Some, None, is_some}
 use Rattle.lu_base.specs.declared.locks.Extent.{Extent}
-use Rattle.lu_words.specs.declared.changes.Flush.{Flush}
-use Rattle.lu_words.specs.declared.changes.Flush.TheVariants.{Cut, Put}
-use Rattle.lu_machine.specs.Objects.{Object, put_bytes, cut_bytes}
-use Rattle.lu_client_rows.specs.Patches.{Patch, holds_extent, cut_extent, cut_within, dirty_in, next_flush, taken, acked}
+use Rattle.lu_spec_entries.specs.declared.changes.Flush.{Flush}
+use Rattle.lu_spec_entries.specs.declared.changes.Flush.TheVariants.{Cut, Put}
+use Rattle.lu_spec_machine.specs.Objects.{Object, put_bytes, cut_bytes}
+use Rattle.lu_spec_client.specs.Patches.{Patch, holds_extent, cut_extent, cut_within, dirty_in, next_flush, taken, acked}
 
 abbrev pub applied : Option Flush → Object → Object
 applied None object = object

@@ -1,9 +1,9 @@
 -- Laws of writing back: nobody who looks through the patch sees a flush, and flushes come to an end.
 use Rattle.std.specs.Prelude.{◌≡◌, ℕ, ◌<◌, ◌≤◌, ◌↔◌, true, false, None}
 use Rattle.lu_base.specs.declared.locks.Extent.{Extent}
-use Rattle.lu_machine.specs.Places.{RisingFrom}
-use Rattle.lu_machine.specs.Objects.{Object}
-use Rattle.lu_client_rows.specs.Patches.{Patch, next_flush, has_change}
+use Rattle.lu_spec_machine.specs.Places.{RisingFrom}
+use Rattle.lu_spec_machine.specs.Objects.{Object}
+use Rattle.lu_spec_client.specs.Patches.{Patch, next_flush, has_change}
 use Rattle.lu_patch.specs.Sound.{IsAtRest}
 use Rattle.lu_patch.specs.Seen.{seen}
 use Rattle.lu_patch.specs.WriteBack.{flushed, object_flushed, flushed_by, object_by, left, Spares, whole}

@@ -1,15 +1,15 @@
 //! The dirty bytes of a patch, and how many they are.
 
 ghost use Rattle.std.specs.Prelude.{◌≡◌, ◌≤◌, ◌+◌, ◌^◌, [], length, option_map, is_some, OnOk, OnErr, IfOk, IfSome};
-ghost use Rattle.lu_machine.specs.Places.{found_at, below, laid, inside, end_of};
-ghost use Rattle.lu_bytes.specs.Runs.{first_position, first_run};
-ghost use Rattle.lu_client_rows.specs.Patches.{landed};
+ghost use Rattle.lu_spec_machine.specs.Places.{found_at, below, laid, inside, end_of};
+ghost use Rattle.lu_spec_bytes.specs.Runs.{first_position, first_run};
+ghost use Rattle.lu_spec_client.specs.Patches.{landed};
 ghost use Rattle.lu_patch.specs.Counted.{between};
 ghost use Rattle.lu_patch.specs.Flights.{FlyBetween};
 
 use lu_base::{Extent, Memory};
-use lu_places::Places;
-use lu_words::Dirty;
+use lu_page::Places;
+use lu_spec_entries::Dirty;
 use std::alloc::Global;
 use std::marker::Model;
 
@@ -23,7 +23,7 @@ pub(crate) struct DirtyBytes {
 
 impl Model for DirtyBytes {
     ghost use Rattle.std.specs.Prelude.{ℕ, List};
-    ghost use Rattle.lu_words.specs.declared.changes.Dirty.{Dirty as DirtyByte};
+    ghost use Rattle.lu_spec_entries.specs.declared.changes.Dirty.{Dirty as DirtyByte};
     ghost use Rattle.lu_patch.specs.Counted.{IsCounted};
 
     ghost Value = { List (ℕ × DirtyByte) };

@@ -1,10 +1,10 @@
 //! What is under way of a write-back.
 
 ghost use Rattle.std.specs.Prelude.{◌≡◌, IfOk};
-ghost use Rattle.lu_client_rows.specs.Patches.{fresh, sent, bytes_of};
+ghost use Rattle.lu_spec_client.specs.Patches.{fresh, sent, bytes_of};
 
 use lu_base::{Bytes, Memory};
-use lu_words::Dirty;
+use lu_spec_entries::Dirty;
 use std::alloc::Global;
 
 /// What is under way of a write-back.

@@ -2,15 +2,15 @@
 //! Wang et al., Understanding Lustre Filesystem Internals, byte by byte).
 
 ghost use Rattle.std.specs.Prelude.{◌≡◌, ◌≤◌, ◌<◌, ◌+◌, ◌^◌, ◌↔◌, ℕ, false, nat_lt, length, slice_index, OnOk, OnErr, IfOk, Option, None, Some, is_some};
-ghost use Rattle.lu_machine.specs.Places.{found_at, below};
-ghost use Rattle.lu_client_rows.specs.Patches.{clean, written, ended, cut, size_over, reads_at, in_flight, acked, holds_extent, cut_extent, cut_within, next_flush, has_change, taken, dirty_in, bytes_of, flown, other_cut};
-ghost use Rattle.lu_words.specs.declared.changes.Flush.TheVariants.{Put};
+ghost use Rattle.lu_spec_machine.specs.Places.{found_at, below};
+ghost use Rattle.lu_spec_client.specs.Patches.{clean, written, ended, cut, size_over, reads_at, in_flight, acked, holds_extent, cut_extent, cut_within, next_flush, has_change, taken, dirty_in, bytes_of, flown, other_cut};
+ghost use Rattle.lu_spec_entries.specs.declared.changes.Flush.TheVariants.{Put};
 ghost use Rattle.lu_patch.specs.Sound.{IsSound};
 
 use super::dirty::DirtyBytes;
 use super::flight::{Flight, bytes_of, fresh, sent};
 use lu_base::{Extent, Memory};
-use lu_words::{Dirty, Flush};
+use lu_spec_entries::{Dirty, Flush};
 use std::alloc::Global;
 use std::marker::Model;
 
@@ -26,7 +26,7 @@ pub struct Patch {
 }
 
 impl Model for Patch {
-    ghost use Rattle.lu_client_rows.specs.Patches.{Patch as Shown};
+    ghost use Rattle.lu_spec_client.specs.Patches.{Patch as Shown};
     ghost use Rattle.lu_patch.specs.Flights.{flight_of, IsKept};
 
     ghost Value = { Shown };

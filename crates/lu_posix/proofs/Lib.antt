@@ -4,7 +4,6 @@ pub mod GoodLayouts
 pub mod Runs
 pub mod SameNames
 pub mod Showing
-pub mod Sound
 pub mod Units
 pub mod Written
 pub mod Both

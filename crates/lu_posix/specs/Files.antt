@@ -5,14 +5,10 @@ use Rattle.std.specs.Option.{unwrap_or}
 use Rattle.lu_base.specs.declared.ids.Fid.{Fid}
 use Rattle.lu_base.specs.declared.locks.Resource.{Resource}
 use Rattle.lu_layout.specs.Raid0.{Raid0, stripe_of, offset_of, file_size_of}
-use Rattle.lu_machine.specs.Bytes.{FileBytes, object_at}
-use Rattle.lu_machine.specs.Footprint.{Every}
-use Rattle.lu_machine.specs.Objects.{Object, object_size}
-use Rattle.lu_machine.specs.Places.{found_at}
-use Rattle.lu_service.specs.Contents.{object_in, IsObject}
-
-abbrev pub AreObjects : List (Resource × Object) → Type 0
-AreObjects objects = Every (λ (e : Resource × Object). IsObject e.1) objects
+use Rattle.lu_spec_machine.specs.Bytes.{FileBytes, object_at}
+use Rattle.lu_spec_machine.specs.Objects.{Object, object_size}
+use Rattle.lu_spec_machine.specs.Places.{found_at}
+use Rattle.lu_service.specs.Contents.{object_in}
 
 -- what the object of a stripe is named
 abbrev pub object : Fid → ℕ → Resource

@@ -4,8 +4,8 @@ use Rattle.lu_msg.specs.declared.calls.Call.{Call}
 use Rattle.lu_msg.specs.declared.calls.Call.TheVariants as call
 use Rattle.lu_msg.specs.declared.operations.Op.{Op}
 use Rattle.lu_msg.specs.declared.operations.Op.TheVariants as op
-use Rattle.lu_machine.specs.declared.acts.Deed.{Deed}
-use Rattle.lu_machine.specs.declared.acts.Deed.TheVariants.{Names, Data, Piece}
+use Rattle.lu_spec_machine.specs.declared.acts.Deed.{Deed}
+use Rattle.lu_spec_machine.specs.declared.acts.Deed.TheVariants.{Names, Data, Piece}
 
 abbrev pub KeepsCall : Call → Type 0
 KeepsCall (call.Read handle offset count) = offset + count ≤ 2 ^ 40

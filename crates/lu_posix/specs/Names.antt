@@ -8,8 +8,8 @@ use Rattle.lu_msg.specs.declared.answers.Answer.TheVariants.{Made, Refused}
 use Rattle.lu_msg.specs.declared.answers.Errno.TheVariants.{EBADF}
 use Rattle.lu_msg.specs.declared.operations.Op.{Op}
 use Rattle.lu_msg.specs.declared.operations.Op.TheVariants.{Create}
-use Rattle.lu_machine.specs.Footprint.{Operation, answer, changes}
-use Rattle.lu_machine.specs.Striping.{new_layout}
+use Rattle.lu_spec_machine.specs.Footprint.{Operation, answer, changes}
+use Rattle.lu_spec_machine.specs.Striping.{new_layout}
 use Rattle.lu_tree.specs.State.{TreeState, fresh, performed}
 
 -- the number of object storage targets, the greatest number of an operation on names so far, and the tree

@@ -6,12 +6,12 @@ use Rattle.std.specs.Option.{option_map}
 use Rattle.lu_base.specs.declared.ids.Fid.{Fid}
 use Rattle.lu_base.specs.declared.locks.Resource.{Resource}
 use Rattle.lu_layout.specs.Raid0.{Raid0}
-use Rattle.lu_machine.specs.Footprint.{empty}
-use Rattle.lu_machine.specs.Machine.{Machine, object_of}
-use Rattle.lu_machine.specs.Objects.{Object}
-use Rattle.lu_machine.specs.Removal.{Item, contents}
-use Rattle.lu_machine.specs.Tree.{Tree, Inode, same_fid}
-use Rattle.lu_machine.specs.Trim.{trimmed, Above, Rising}
+use Rattle.lu_spec_machine.specs.Footprint.{empty}
+use Rattle.lu_spec_machine.specs.Machine.{Machine, object_of}
+use Rattle.lu_spec_machine.specs.Objects.{Object}
+use Rattle.lu_spec_machine.specs.Removal.{Item, contents}
+use Rattle.lu_spec_machine.specs.Tree.{Tree, Inode, same_fid}
+use Rattle.lu_spec_machine.specs.Trim.{trimmed, Above, Rising}
 use Rattle.lu_service.specs.Contents.{object_in}
 use Rattle.lu_posix.specs.Names.{NamesState}
 

@@ -3,7 +3,7 @@
 ghost use Rattle.std.specs.Prelude.{◌≡◌, [], Some, if◌then◌else◌, OnOk};
 ghost use Rattle.std.specs.Map.{lookup};
 ghost use Rattle.lu_base.specs.declared.ids.Fid.{Fid as SpecFid};
-ghost use Rattle.lu_machine.specs.Tree.{same_fid};
+ghost use Rattle.lu_spec_machine.specs.Tree.{same_fid};
 
 use indexmap::IndexMap;
 use lu_base::{Fid, Memory};

@@ -1,11 +1,10 @@
-//! The plain machine of `lu_machine` as a program: it answers one act after another, exactly as the machine does.
+//! The plain machine of `lu_spec_machine` as a program: it answers one act after another, exactly as the machine does.
 #![tactic(auto)]
 
 mod files;
 mod layouts;
 mod machines;
 mod names;
-mod objects;
 mod striping;
 
 pub use machines::Machine;

@@ -1,20 +1,21 @@
 //! The machine.
 
 ghost use Rattle.std.specs.Prelude.{◌≡◌, ℕ, ◌≤◌, ◌+◌, ◌^◌, length, IfOk, OnOk};
-ghost use Rattle.lu_machine.specs.Bytes.{read, write, cut};
-ghost use Rattle.lu_machine.specs.Machine.{Machine as Plain, start, answer, next, as_told, names_answer, names_next, data_answer, data_change, changed_bytes, piece_next, bytes_of, object_of};
-ghost use Rattle.lu_machine.specs.Objects.{object_size};
-ghost use Rattle.lu_machine.specs.Tree.{layout};
+ghost use Rattle.lu_spec_machine.specs.Bytes.{read, write, cut};
+ghost use Rattle.lu_spec_machine.specs.Machine.{Machine as Plain, start, answer, next, as_told, names_answer, names_next, data_answer, data_change, changed_bytes, piece_next, bytes_of, object_of};
+ghost use Rattle.lu_spec_machine.specs.Objects.{object_size};
+ghost use Rattle.lu_spec_machine.specs.Tree.{layout};
 ghost use Rattle.lu_posix.specs.Limits.{KeepsLimits, KeepsCall, KeepsPiece};
 ghost use Rattle.lu_posix.specs.Names.{asked};
 ghost use Rattle.lu_posix.specs.Shown.{Shows, ShowsObjects};
 
+use super::files::{cut_file, file_size, read_file, write_file};
 use super::layouts::Layouts;
 use super::names::Names;
-use super::objects::Objects;
 use lu_base::{Bytes, Fid, Memory, Resource, Txn, Who};
-use lu_machine::{Act, Deed};
 use lu_msg::{Answer, Call, Errno, Op};
+use lu_ost::Objects;
+use lu_spec_machine::{Act, Deed};
 use std::alloc::Global;
 use std::marker::Model;
 
@@ -118,7 +119,7 @@ impl Machine {
                 fid,
                 mode,
                 links,
-                size: self.objects.file_size(fid, &layout),
+                size: file_size(&self.objects, fid, &layout),
             },
             Answer::OpenFile { fid, .. } => Answer::Made(fid),
             answer => answer,
@@ -179,7 +180,7 @@ impl Machine {
         let Some(layout) = self.layouts.of(fid) else {
             return Ok(Bytes::new(alloc));
         };
-        self.objects.read(alloc, &layout, fid, offset, count)
+        read_file(&self.objects, alloc, &layout, fid, offset, count)
     }
 
     /// Writes bytes of a file; of what never was one nothing is kept.
@@ -191,7 +192,7 @@ impl Machine {
         let Some(layout) = self.layouts.of(fid) else {
             return Ok(());
         };
-        self.objects.write(alloc, &layout, fid, offset, bytes)
+        write_file(&mut self.objects, alloc, &layout, fid, offset, bytes)
     }
 
     /// Makes a file end at a size; of what never was one nothing changes.
@@ -203,7 +204,7 @@ impl Machine {
         let Some(layout) = self.layouts.of(fid) else {
             return Ok(());
         };
-        self.objects.cut_file(alloc, &layout, fid, size)
+        cut_file(&mut self.objects, alloc, &layout, fid, size)
     }
 
     /// Performs an operation that reaches the object of one stripe, as `answer` does, whose answer is that it is done: for

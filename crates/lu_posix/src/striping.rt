@@ -1,7 +1,7 @@
 //! The layouts of new files.
 
 ghost use Rattle.std.specs.Prelude.{◌≡◌, ◌<◌, ◌≤◌, ℤ, take};
-ghost use Rattle.lu_machine.specs.Striping.{is_bad, new_layout, stripe_count, stripe_size, stripe_targets};
+ghost use Rattle.lu_spec_machine.specs.Striping.{is_bad, new_layout, stripe_count, stripe_size, stripe_targets};
 
 use lu_base::Txn;
 use lu_layout::Layout;

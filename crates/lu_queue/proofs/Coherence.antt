@@ -1,5 +1,6 @@
 -- What holds of a queue still holds after each call.
-use Rattle.std.proofs.Common.{◌≡◌, ℕ, zero, suc, ◌<◌, ◌==◌, Bool, true, false, not, List, [], ◌∷◌, ◌++◌, length, filter, All, AllPairs, get_or, refl, sym, ◌∙◌, ap, subst, arith}
+use Rattle.std.proofs.Common.{◌≡◌, ℕ, zero, suc, ◌<◌, ◌==◌, Bool, true, false, not, List, [], ◌∷◌, ◌++◌, length, filter, All, AllPairs}
+use Rattle.std.proofs.Common.{get_or, refl, sym, ◌∙◌, ap, subst, arith}
 use Rattle.std.proofs.lemmas.List.{append_assoc, length-append}
 use Rattle.std.proofs.lemmas.List.Folds.{list_any-append}
 use Rattle.std.proofs.Math.Seq.{get_or-append_seam}
@@ -11,7 +12,8 @@ use Rattle.lu_lock.specs.Conflict.{conflict}
 use Rattle.lu_lock.proofs.ConflictLaws.{conflict_symmetric}
 use Rattle.lu_lock.proofs.GrowthLaws.{granted_apart}
 use Rattle.lu_queue.specs.declared.locks.Grant.{Grant}
-use Rattle.lu_queue.specs.Queues.{QueueState, asks, has, times, IsOnce, is_in, conflicts, has_to_wait, as_granted, IsGranted, AreGranted, without, IsCoherent, IsQueue}
+use Rattle.lu_queue.specs.Queues.{QueueState, asks, has, times, IsOnce, is_in, conflicts, has_to_wait, as_granted, IsGranted, AreGranted}
+use Rattle.lu_queue.specs.Queues.{without, IsCoherent, IsQueue}
 use Rattle.lu_queue.proofs.Lists.{or_false, times-append, times_of_filter, once_with, conflicts-asks, no_conflict_at}
 use Rattle.lu_queue.proofs.Waits.{all_wait_more, all_wait_push}
 
@@ -19,9 +21,11 @@ abbrev Apart : Grant → Grant → Type 0
 Apart a b = conflict a.ask b.ask ≡ false
 
 -- one more granted lock that conflicts with none
-apart_with : (granted : List Grant) (grant : Grant) → AllPairs Apart granted → conflicts grant.ask granted ≡ false → AllPairs Apart (granted ++ grant ∷ [])
+apart_with : (granted : List Grant) (grant : Grant) → AllPairs Apart granted → conflicts grant.ask granted ≡ false
+    → AllPairs Apart (granted ++ grant ∷ [])
 apart_with granted grant apart none =
-    all_pairs_push Apart granted grant apart (λ place d below. conflict_symmetric (get_or granted place d).ask grant.ask ∙ no_conflict_at grant.ask granted none place d below)
+    all_pairs_push Apart granted grant apart (λ place d below. conflict_symmetric (get_or granted place d).ask grant.ask
+    ∙ no_conflict_at grant.ask granted none place d below)
 
 -- a lock that conflicts with no granted one conflicts with none as it is granted
 grown_apart : (lock : Grant) (granted waiting : List Grant) → IsOrdered lock.ask.policy → conflicts lock.ask granted ≡ false →
@@ -50,18 +54,21 @@ All-middle P ahead x behind all =
     let count = length-append ahead (x ∷ behind) in
     subst P (get_or-append_seam ahead x behind x) (all (length ahead) x (omega arith))
 
-All-without : (P : Grant → Type 0) (ahead : List Grant) (x : Grant) (behind : List Grant) → All P (ahead ++ x ∷ behind) → All P (ahead ++ behind)
+All-without : (P : Grant → Type 0) (ahead : List Grant) (x : Grant) (behind : List Grant) → All P (ahead ++ x ∷ behind)
+    → All P (ahead ++ behind)
 All-without P [] x behind all = λ place d within. all (suc place) d (omega arith)
 All-without P (a ∷ ahead) x behind all = λ place d within.
     by place d within (All-without P ahead x behind (λ k e below. all (suc k) e (omega arith))) where
-      by : (place : ℕ) (d : Grant) → place < length (a ∷ (ahead ++ behind)) → All P (ahead ++ behind) → P (get_or (a ∷ (ahead ++ behind)) place d)
+      by : (place : ℕ) (d : Grant) → place < length (a ∷ (ahead ++ behind)) → All P (ahead ++ behind)
+          → P (get_or (a ∷ (ahead ++ behind)) place d)
       by zero d within rest = all zero d (omega arith)
       by (suc place) d within rest = rest place d (omega arith)
 
 abbrev Ordered : Grant → Type 0
 Ordered lock = IsOrdered lock.ask.policy
 
-pub coherent_granted : (before : QueueState) (grant : Grant) (after : QueueState) → IsCoherent before → IsGranted before grant after → IsCoherent after
+pub coherent_granted : (before : QueueState) (grant : Grant) (after : QueueState) → IsCoherent before → IsGranted before grant after
+    → IsCoherent after
 coherent_granted before grant after coherent step =
     let all : All Ordered (step.ahead ++ step.lock ∷ step.behind) = subst (All Ordered) step.waiting coherent.ordered in
     let asked : IsOrdered step.lock.ask.policy = All-middle Ordered step.ahead step.lock step.behind all in
@@ -113,7 +120,8 @@ queue_waits queue lock lawful new ordered waits =
       stuck = all_wait_push queue.granted queue.waiting lock lawful.stuck waits;
     }
 
-pub queue_with : (queue : QueueState) (lock grant : Grant) → IsQueue queue → is_in lock.cookie.0 queue ≡ false → grant.cookie ≡ lock.cookie →
+pub queue_with : (queue : QueueState) (lock grant : Grant) → IsQueue queue → is_in lock.cookie.0 queue ≡ false → grant.cookie ≡ lock.cookie
+    →
     conflicts grant.ask queue.granted ≡ false → IsQueue (record { granted = queue.granted ++ grant ∷ []; waiting = queue.waiting })
 queue_with queue lock grant lawful new same none =
     let coherent = lawful.coherent in
@@ -153,7 +161,8 @@ coherent_without cookie queue lawful =
     }
 
 -- the locks that pass a test
-pub coherent_filtered : (test : Grant → Bool) (queue : QueueState) → IsQueue queue → IsCoherent (record { granted = filter test queue.granted; waiting = filter test queue.waiting })
+pub coherent_filtered : (test : Grant → Bool) (queue : QueueState) → IsQueue queue
+    → IsCoherent (record { granted = filter test queue.granted; waiting = filter test queue.waiting })
 coherent_filtered test queue lawful =
     let coherent = lawful.coherent in
     record {

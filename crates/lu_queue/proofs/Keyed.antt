@@ -1,5 +1,6 @@
 -- A map of locks under their own cookies: what is looked up by a cookie, and what is added.
-use Rattle.std.proofs.Common.{◌≡◌, ℕ, zero, suc, ◌==◌, ◌||◌, Bool, true, false, cond, Option, Some, None, List, [], ◌∷◌, map, find, All, refl, ◌∙◌, ap, arith, is_some}
+use Rattle.std.proofs.Common.{◌≡◌, ℕ, zero, suc, ◌==◌, ◌||◌, Bool, true, false, cond, Option, Some, None, List, [], ◌∷◌, map, find, All}
+use Rattle.std.proofs.Common.{refl, ◌∙◌, ap, arith, is_some}
 use Rattle.std.specs.Map.{lookup}
 use Rattle.lu_base.specs.declared.ids.Cookie.{Cookie}
 use Rattle.lu_queue.specs.declared.locks.Grant.{Grant}
@@ -22,7 +23,8 @@ pub find_keyed : (test : Cookie → Bool) (cookie : ℕ) → Tests test cookie �
     lookup test entries ≡ find (λ lock. lock.cookie.0 == cookie) (map (λ entry. entry.1) entries)
 find_keyed test cookie same [] keyed = refl
 find_keyed test cookie same (entry ∷ entries) keyed =
-    let here : test entry.0 ≡ (entry.1.cookie.0 == cookie) = same entry.0 ∙ ap (λ (key : Cookie). key.0 == cookie) (head entry entries keyed) in
+    let here : test entry.0 ≡ (entry.1.cookie.0 == cookie) = same entry.0
+    ∙ ap (λ (key : Cookie). key.0 == cookie) (head entry entries keyed) in
     let rest = find_keyed test cookie same entries (tail entry entries keyed) in
     rw (here, rest) refl
 

@@ -1,5 +1,6 @@
 -- Lists of locks: how often a cookie is there, and what conflicts.
-use Rattle.std.proofs.Common.{◌≡◌, ℕ, zero, suc, ◌+◌, ◌<◌, ◌≤◌, ◌==◌, ◌||◌, ◌∙◌, Bool, true, false, cond, Option, Some, None, find, List, [], ◌∷◌, ◌++◌, length, map, filter, take, drop, get_or, refl, sym, ap, subst, arith}
+use Rattle.std.proofs.Common.{◌≡◌, ℕ, zero, suc, ◌+◌, ◌<◌, ◌≤◌, ◌==◌, ◌||◌, ◌∙◌, Bool, true, false, cond, Option, Some, None, find, List}
+use Rattle.std.proofs.Common.{[], ◌∷◌, ◌++◌, length, map, filter, take, drop, get_or, refl, sym, ap, subst, arith}
 use Rattle.std.specs.List.{count_by}
 use Rattle.std.specs.List.Sorted.{IsPermutation, IsSorted}
 use Rattle.std.specs.Option.{option_or}
@@ -43,7 +44,8 @@ times_of_filter cookie test [] = omega arith
 times_of_filter cookie test (x ∷ xs) = let rest = times_of_filter cookie test xs in grind (arith, common_steps, rest)
 
 -- a lock of a list in which no cookie is twice isn't among those before it
-pub new_after : (before : List Grant) (lock : Grant) (after : List Grant) → IsOnce (before ++ lock ∷ after) → has lock.cookie.0 before ≡ false
+pub new_after : (before : List Grant) (lock : Grant) (after : List Grant) → IsOnce (before ++ lock ∷ after) → has lock.cookie.0 before
+    ≡ false
 new_after before lock after once =
     let here : (lock.cookie.0 == lock.cookie.0) ≡ true = grind (arith, nat_tests) in
     let one : times lock.cookie.0 (lock ∷ []) ≡ 1 = rw here refl in
@@ -105,7 +107,8 @@ numbers_of_filter n test [] = omega arith
 numbers_of_filter n test (x ∷ xs) = let rest = numbers_of_filter n test xs in grind (arith, common_steps, rest)
 
 -- sorted cookies don't fall
-pub not_falling : (cmp : Cookie → Cookie → Ordering) → ((a b : Cookie) → is_lt (cmp b a) ≡ false → a.0 ≤ b.0) → (cookies : List Cookie) → IsSorted cmp cookies →
+pub not_falling : (cmp : Cookie → Cookie → Ordering) → ((a b : Cookie) → is_lt (cmp b a) ≡ false → a.0 ≤ b.0) → (cookies : List Cookie)
+    → IsSorted cmp cookies →
     (place : ℕ) (d : Cookie) → place + 1 < length cookies → (get_or cookies place d).0 ≤ (get_or cookies (place + 1) d).0
 not_falling cmp orders cookies sorted place d within = orders _ _ (sorted place d (omega arith) within)
 
@@ -119,8 +122,10 @@ rising_once test locks cookies once moved sorted = λ place d within.
     let low : n ≤ (get_or cookies (place + 1) d).0 = sorted place d within in
     by place d within n refl low (get_or cookies (place + 1) d).0 refl (n == (get_or cookies (place + 1) d).0) refl
   where
-    by : (place : ℕ) (d : Cookie) → place + 1 < length cookies → (n : ℕ) → (get_or cookies place d).0 ≡ n → n ≤ (get_or cookies (place + 1) d).0 →
-        (m : ℕ) → (get_or cookies (place + 1) d).0 ≡ m → (same : Bool) → (n == (get_or cookies (place + 1) d).0) ≡ same → n < (get_or cookies (place + 1) d).0
+    by : (place : ℕ) (d : Cookie) → place + 1 < length cookies → (n : ℕ) → (get_or cookies place d).0 ≡ n
+        → n ≤ (get_or cookies (place + 1) d).0 →
+        (m : ℕ) → (get_or cookies (place + 1) d).0 ≡ m → (same : Bool) → (n == (get_or cookies (place + 1) d).0) ≡ same
+        → n < (get_or cookies (place + 1) d).0
     by place d within n e low m f false differ = grind (arith, nat_tests, differ)
     by place d within n e low m f true equal =
         let here : ((get_or cookies place d).0 == n) ≡ true = grind (arith, nat_tests, e) in
@@ -132,25 +137,31 @@ rising_once test locks cookies once moved sorted = λ place d within.
         let all : number_of n (take (place + 1 + 1) cookies) + number_of n (drop (place + 1 + 1) cookies) ≡ number_of n cookies =
         sum_by-take-drop (λ (cookie : Cookie). cond (cookie.0 == n) 1 0) cookies (place + 1 + 1) in
         let before : number_of n cookies ≡ number_of n (map (λ lock. lock.cookie) (filter test locks)) =
-        sum_by-IsPermutation (λ (cookie : Cookie). cond (cookie.0 == n) 1 0) (map (λ lock. lock.cookie) (filter test locks)) cookies moved in
+        sum_by-IsPermutation (λ (cookie : Cookie). cond (cookie.0 == n) 1 0) (map (λ lock. lock.cookie) (filter test locks)) cookies moved
+        in
         let few = numbers_of_filter n test locks in
         let most : times n locks ≤ 1 = once n in
         absurd (omega arith)
 
 -- one more, among locks in rising cookie
-pub in_order_with : (locks rising order : List Grant) (lock : Grant) → IsInOrder locks rising → IsInOrder (rising ++ lock ∷ []) order → IsInOrder (locks ++ lock ∷ []) order
+pub in_order_with : (locks rising order : List Grant) (lock : Grant) → IsInOrder locks rising → IsInOrder (rising ++ lock ∷ []) order
+    → IsInOrder (locks ++ lock ∷ []) order
 in_order_with locks rising order lock before after = record {
-  same = IsPermutation-trans (locks ++ lock ∷ []) (rising ++ lock ∷ []) order (IsPermutation-append_left (lock ∷ []) locks rising before.same) after.same;
+  same = IsPermutation-trans (locks ++ lock ∷ []) (rising ++ lock ∷ []) order
+      (IsPermutation-append_left (lock ∷ []) locks rising before.same) after.same;
   rising = after.rising;
 }
 
 -- ---- what is found by its cookie: granted, or else waiting
 
-pub found_first : (cookie : ℕ) (queue : QueueState) (lock : Grant) → Some lock ≡ find (λ l. l.cookie.0 == cookie) queue.granted → Some lock ≡ lock_of cookie queue
+pub found_first : (cookie : ℕ) (queue : QueueState) (lock : Grant) → Some lock ≡ find (λ l. l.cookie.0 == cookie) queue.granted → Some lock
+    ≡ lock_of cookie queue
 found_first cookie queue lock h =
-    sym (find-append (λ (l : Grant). l.cookie.0 == cookie) queue.granted queue.waiting ∙ ap (λ found. option_or found (find (λ l. l.cookie.0 == cookie) queue.waiting)) (sym h))
+    sym (find-append (λ (l : Grant). l.cookie.0 == cookie) queue.granted queue.waiting
+    ∙ ap (λ found. option_or found (find (λ l. l.cookie.0 == cookie) queue.waiting)) (sym h))
 
 pub found_next : (cookie : ℕ) (queue : QueueState) (found : Option Grant) → None ≡ find (λ l. l.cookie.0 == cookie) queue.granted →
     found ≡ find (λ l. l.cookie.0 == cookie) queue.waiting → found ≡ lock_of cookie queue
 found_next cookie queue found none h =
-    h ∙ sym (find-append (λ (l : Grant). l.cookie.0 == cookie) queue.granted queue.waiting ∙ ap (λ first. option_or first (find (λ l. l.cookie.0 == cookie) queue.waiting)) (sym none))
+    h ∙ sym (find-append (λ (l : Grant). l.cookie.0 == cookie) queue.granted queue.waiting
+    ∙ ap (λ first. option_or first (find (λ l. l.cookie.0 == cookie) queue.waiting)) (sym none))

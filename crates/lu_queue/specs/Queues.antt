@@ -1,6 +1,7 @@
 -- The locks of one resource: which of them wait, and which are granted when (Wang et al., Understanding Lustre Filesystem
 -- Internals, the lock manager; that locks are granted first come first served is this project's profile).
-use Rattle.std.specs.Prelude.{◌≡◌, ℕ, ◌+◌, ◌≤◌, ◌<◌, Bool, true, false, not, ◌||◌, ◌&&◌, ◌==◌, if◌then◌else◌, Option, List, [], ◌∷◌, ◌++◌, length, map, filter, find, take, count_by, All, AllPairs, slice_index_or, slice_get, IsPermutation}
+use Rattle.std.specs.Prelude.{◌≡◌, ℕ, ◌+◌, ◌≤◌, ◌<◌, Bool, true, false, not, ◌||◌, ◌&&◌, ◌==◌, if◌then◌else◌, Option, List, [], ◌∷◌, ◌++◌}
+use Rattle.std.specs.Prelude.{length, map, filter, find, take, count_by, All, AllPairs, slice_index_or, slice_get, IsPermutation}
 use Rattle.std.specs.Option.{option_map_or}
 use Rattle.std.specs.List.{list_any}
 use Rattle.lu_base.specs.declared.locks.Ask.{Ask}
@@ -59,7 +60,8 @@ conflicts ask locks = list_any (λ lock. conflict ask lock.ask) locks
 -- The same locks, none of whose cookies is below that of the one before it.
 pub record IsInOrder (locks order : List Grant) : Type 0 where
   pub same : IsPermutation locks order
-  pub rising : (place : ℕ) (d : Grant) → place + 1 < length order → (slice_index_or order place d).cookie.0 ≤ (slice_index_or order (place + 1) d).cookie.0
+  pub rising : (place : ℕ) (d : Grant) → place + 1 < length order
+      → (slice_index_or order place d).cookie.0 ≤ (slice_index_or order (place + 1) d).cookie.0
 
 -- The lock at this place among them, in rising cookie; none past the last.
 pub record IsAt (at : ℕ) (locks : List Grant) (found : Option Grant) : Type 0 where

@@ -1,5 +1,6 @@
 -- Calls: what is read has the form and keeps the limits, and what has the form and keeps them is read.
-use Rattle.std.proofs.Common.{◌≡◌, ℕ, ◌+◌, ◌^◌, ◌<◌, ◌≤◌, cond, List, [], ◌∷◌, length, Option, Some, None, Result, Ok, Err, ap, subst, ◌∙◌, decimal, arith, lit<}
+use Rattle.std.proofs.Common.{◌≡◌, ℕ, ◌+◌, ◌^◌, ◌<◌, ◌≤◌, cond, List, [], ◌∷◌, length, Option, Some, None, Result, Ok, Err, ap, subst, ◌∙◌}
+use Rattle.std.proofs.Common.{decimal, arith, lit<}
 use Rattle.std.specs.Prelude.{nat_le, ℤ}
 use Rattle.std.proofs.lemmas.Bool.{leb-true, le-leb, cond-true}
 use Rattle.lu_base.specs.Texts.{path_text, IsPath}
@@ -11,12 +12,14 @@ use Rattle.lu_scene.specs.declared.words.CallName.{CallName}
 use Rattle.lu_scene.specs.declared.words.CallName.TheVariants as names
 use Rattle.lu_scene.specs.Words.{name_text}
 use Rattle.lu_scene.specs.Fields.{◌>>=◌, number_in, number_at, mode_at, count_at, path_at, data_at}
-use Rattle.lu_scene.specs.Calls.{one_path, two_paths, handle_at, one_handle, create_of, chmod_of, open_of, read_of, write_of, cut_of, call_of}
+use Rattle.lu_scene.specs.Calls.{one_path, two_paths, handle_at, one_handle, create_of, chmod_of, open_of, read_of, write_of, cut_of}
+use Rattle.lu_scene.specs.Calls.{call_of}
 use Rattle.std.specs.Fmt.{signed_decimal}
 use Rattle.lu_trace.specs.Calls.{stripes_words}
 use Rattle.lu_scene.specs.Grammar.{StripesFit, CallFits, IsCall}
 use Rattle.lu_scene.proofs.Options.{bind_ok, guard_ok, ok_is}
-use Rattle.lu_scene.proofs.Readings.{number_at-read, number_at-again, number_in-read, number_in-again, mode_at-read, mode_at-again, count_at-read, count_at-again, path_at-read, path_at-again, data_at-read, data_at-again}
+use Rattle.lu_scene.proofs.Readings.{number_at-read, number_at-again, number_in-read, number_in-again, mode_at-read, mode_at-again}
+use Rattle.lu_scene.proofs.Readings.{count_at-read, count_at-again, path_at-read, path_at-again, data_at-read, data_at-again}
 
 -- a call that was read
 abbrev pub WasCall : CallName → List (List ℕ) → Call → Type 0
@@ -45,12 +48,15 @@ two_paths-read (word ∷ second ∷ []) paths e =
     let b = bind_ok (path_at second) (λ new. Ok (a.0, new)) paths a.2 in
     let one = path_at-read word a.0 a.1 in
     let two = path_at-read second b.0 b.1 in
-    subst (λ (p : List (List ℕ) × List (List ℕ)). IsPath p.0 × IsPath p.1 × (word ∷ second ∷ [] ≡ path_text p.0 ∷ path_text p.1 ∷ [])) (ok_is (a.0, b.0) paths b.2)
+    subst (λ (p : List (List ℕ) × List (List ℕ)). IsPath p.0 × IsPath p.1 × (word ∷ second ∷ [] ≡ path_text p.0 ∷ path_text p.1 ∷ []))
+    (ok_is (a.0, b.0) paths b.2)
     (one.0, two.0, ap (λ (w : List ℕ). w ∷ second ∷ []) one.1 ∙ ap (λ (w : List ℕ). path_text a.0 ∷ w ∷ []) two.1)
 
 -- a call of two paths
-paths_call : (make : List (List ℕ) → List (List ℕ) → Call) (words : List (List ℕ)) (call : Call) → (two_paths words >>= λ paths. Ok (make paths.0 paths.1)) ≡ Ok call
-    → (old : List (List ℕ)) × (new : List (List ℕ)) × IsPath old × IsPath new × (words ≡ path_text old ∷ path_text new ∷ []) × (make old new ≡ call)
+paths_call : (make : List (List ℕ) → List (List ℕ) → Call) (words : List (List ℕ)) (call : Call)
+    → (two_paths words >>= λ paths. Ok (make paths.0 paths.1)) ≡ Ok call
+    → (old : List (List ℕ)) × (new : List (List ℕ)) × IsPath old × IsPath new × (words ≡ path_text old ∷ path_text new ∷ [])
+    × (make old new ≡ call)
 paths_call make words call e =
     let b = bind_ok (two_paths words) (λ paths. Ok (make paths.0 paths.1)) call e in
     let is = two_paths-read words b.0 b.1 in
@@ -79,8 +85,10 @@ create_of-read (word ∷ []) call e =
     subst (λ (k : Call). WasCall names.Create (word ∷ []) k) (ok_is (calls.Create a.0 None) call a.2)
     ((is.0, tt), ap (λ (w : List ℕ). name_text names.Create ∷ w ∷ []) is.1)
 create_of-read (word ∷ second ∷ third ∷ []) call e =
-    let a = bind_ok (path_at word) (λ path. number_in 0 (2 ^ 32) second >>= λ size. count_at third >>= λ count. Ok (calls.Create path (Some (size, count)))) call e in
-    let b = bind_ok (number_in 0 (2 ^ 32) second) (λ size. count_at third >>= λ count. Ok (calls.Create a.0 (Some (size, count)))) call a.2 in
+    let a = bind_ok (path_at word) (λ path. number_in 0 (2 ^ 32) second >>= λ size. count_at third >>=
+    λ count. Ok (calls.Create path (Some (size, count)))) call e in
+    let b = bind_ok (number_in 0 (2 ^ 32) second) (λ size. count_at third >>= λ count. Ok (calls.Create a.0 (Some (size, count)))) call a.2
+    in
     let d = bind_ok (count_at third) (λ count. Ok (calls.Create a.0 (Some (b.0, count)))) call b.2 in
     let one = path_at-read word a.0 a.1 in
     let two = number_in-read 0 (2 ^ 32) second b.0 b.1 in
@@ -125,9 +133,12 @@ read_of-read (word ∷ []) call e = absurd cc
 read_of-read (word ∷ second ∷ []) call e = absurd cc
 read_of-read (word ∷ second ∷ third ∷ fourth ∷ more) call e = absurd cc
 read_of-read (word ∷ second ∷ third ∷ []) call e =
-    let a = bind_ok (handle_at word) (λ handle. number_at second >>= λ offset. number_in 1 65536 third >>= λ size. cond (nat_le (offset + size) (2 ^ 40)) (Ok (calls.Read handle offset size)) (Err faults.Number)) call e in
-    let b = bind_ok (number_at second) (λ offset. number_in 1 65536 third >>= λ size. cond (nat_le (offset + size) (2 ^ 40)) (Ok (calls.Read a.0 offset size)) (Err faults.Number)) call a.2 in
-    let d = bind_ok (number_in 1 65536 third) (λ size. cond (nat_le (b.0 + size) (2 ^ 40)) (Ok (calls.Read a.0 b.0 size)) (Err faults.Number)) call b.2 in
+    let a = bind_ok (handle_at word) (λ handle. number_at second >>= λ offset. number_in 1 65536 third >>=
+    λ size. cond (nat_le (offset + size) (2 ^ 40)) (Ok (calls.Read handle offset size)) (Err faults.Number)) call e in
+    let b = bind_ok (number_at second) (λ offset. number_in 1 65536 third >>=
+    λ size. cond (nat_le (offset + size) (2 ^ 40)) (Ok (calls.Read a.0 offset size)) (Err faults.Number)) call a.2 in
+    let d = bind_ok (number_in 1 65536 third) (λ size. cond (nat_le (b.0 + size) (2 ^ 40)) (Ok (calls.Read a.0 b.0 size))
+    (Err faults.Number)) call b.2 in
     let g = guard_ok (nat_le (b.0 + d.0) (2 ^ 40)) faults.Number (calls.Read a.0 b.0 d.0) call d.2 in
     let one = number_in-read 0 15 word a.0 a.1 in
     let two = number_at-read second b.0 b.1 in
@@ -145,9 +156,12 @@ write_of-read (word ∷ []) call e = absurd cc
 write_of-read (word ∷ second ∷ []) call e = absurd cc
 write_of-read (word ∷ second ∷ third ∷ fourth ∷ more) call e = absurd cc
 write_of-read (word ∷ second ∷ third ∷ []) call e =
-    let a = bind_ok (handle_at word) (λ handle. number_at second >>= λ offset. data_at third >>= λ bytes. cond (nat_le (offset + length bytes) (2 ^ 40)) (Ok (calls.Write handle offset bytes)) (Err faults.Number)) call e in
-    let b = bind_ok (number_at second) (λ offset. data_at third >>= λ bytes. cond (nat_le (offset + length bytes) (2 ^ 40)) (Ok (calls.Write a.0 offset bytes)) (Err faults.Number)) call a.2 in
-    let d = bind_ok (data_at third) (λ bytes. cond (nat_le (b.0 + length bytes) (2 ^ 40)) (Ok (calls.Write a.0 b.0 bytes)) (Err faults.Number)) call b.2 in
+    let a = bind_ok (handle_at word) (λ handle. number_at second >>= λ offset. data_at third >>=
+    λ bytes. cond (nat_le (offset + length bytes) (2 ^ 40)) (Ok (calls.Write handle offset bytes)) (Err faults.Number)) call e in
+    let b = bind_ok (number_at second) (λ offset. data_at third >>=
+    λ bytes. cond (nat_le (offset + length bytes) (2 ^ 40)) (Ok (calls.Write a.0 offset bytes)) (Err faults.Number)) call a.2 in
+    let d = bind_ok (data_at third) (λ bytes. cond (nat_le (b.0 + length bytes) (2 ^ 40)) (Ok (calls.Write a.0 b.0 bytes))
+    (Err faults.Number)) call b.2 in
     let g = guard_ok (nat_le (b.0 + length d.0) (2 ^ 40)) faults.Number (calls.Write a.0 b.0 d.0) call d.2 in
     let one = number_in-read 0 15 word a.0 a.1 in
     let two = number_at-read second b.0 b.1 in
@@ -226,7 +240,8 @@ call_of-read names.Glimpse words call e =
 abbrev pub Again : List (List ℕ) → Call → Type 0
 Again words call = (name : CallName) × (more : List (List ℕ)) × (words ≡ name_text name ∷ more) × (call_of name more ≡ Ok call)
 
-again_path : (make : List (List ℕ) → Call) (path : List (List ℕ)) → IsPath path → (one_path (path_text path ∷ []) >>= λ p. Ok (make p)) ≡ Ok (make path)
+again_path : (make : List (List ℕ) → Call) (path : List (List ℕ)) → IsPath path → (one_path (path_text path ∷ []) >>= λ p. Ok (make p))
+    ≡ Ok (make path)
 again_path make path is = ap (λ (r : Result (List (List ℕ)) Fault). r >>= λ p. Ok (make p)) (path_at-again path is)
 
 abbrev both : List (List ℕ) → List (List ℕ) → Result (List (List ℕ) × List (List ℕ)) Fault
@@ -235,7 +250,8 @@ both old new = Ok (old, new)
 again_paths : (make : List (List ℕ) → List (List ℕ) → Call) (old new : List (List ℕ)) → IsPath old → IsPath new
     → (two_paths (path_text old ∷ path_text new ∷ []) >>= λ p. Ok (make p.0 p.1)) ≡ Ok (make old new)
 again_paths make old new one two =
-    ap (λ (r : Result (List (List ℕ)) Fault). (r >>= λ p. path_at (path_text new) >>= λ q. both p q) >>= λ p. Ok (make p.0 p.1)) (path_at-again old one)
+    ap (λ (r : Result (List (List ℕ)) Fault). (r >>= λ p. path_at (path_text new) >>= λ q. both p q) >>= λ p. Ok (make p.0 p.1))
+    (path_at-again old one)
     ∙ ap (λ (r : Result (List (List ℕ)) Fault). (r >>= λ q. both old q) >>= λ p. Ok (make p.0 p.1)) (path_at-again new two)
 
 handle_again : (handle : ℕ) → handle ≤ 15 → handle_at (decimal handle) ≡ Ok handle
@@ -244,11 +260,14 @@ handle_again handle low = number_in-again 0 15 handle (omega arith) low (lit< tt
 again_handle : (make : ℕ → Call) (handle : ℕ) → handle ≤ 15 → (one_handle (decimal handle ∷ []) >>= λ h. Ok (make h)) ≡ Ok (make handle)
 again_handle make handle low = ap (λ (r : Result ℕ Fault). r >>= λ h. Ok (make h)) (handle_again handle low)
 
-again_create : (path : List (List ℕ)) (stripes : Option (ℕ × ℤ)) → IsPath path → StripesFit stripes → create_of (path_text path ∷ stripes_words stripes) ≡ Ok (calls.Create path stripes)
+again_create : (path : List (List ℕ)) (stripes : Option (ℕ × ℤ)) → IsPath path → StripesFit stripes
+    → create_of (path_text path ∷ stripes_words stripes) ≡ Ok (calls.Create path stripes)
 again_create path None is fits = ap (λ (r : Result (List (List ℕ)) Fault). r >>= λ p. Ok (calls.Create p None)) (path_at-again path is)
 again_create path (Some stripes) is fits =
-    ap (λ (r : Result (List (List ℕ)) Fault). r >>= λ p. number_in 0 (2 ^ 32) (decimal stripes.0) >>= λ size. count_at (signed_decimal stripes.1) >>= λ count. Ok (calls.Create p (Some (size, count)))) (path_at-again path is)
-    ∙ ap (λ (r : Result ℕ Fault). r >>= λ size. count_at (signed_decimal stripes.1) >>= λ count. Ok (calls.Create path (Some (size, count)))) (number_in-again 0 (2 ^ 32) stripes.0 (omega arith) fits.0 (lit< tt))
+    ap (λ (r : Result (List (List ℕ)) Fault). r >>= λ p. number_in 0 (2 ^ 32) (decimal stripes.0) >>=
+    λ size. count_at (signed_decimal stripes.1) >>= λ count. Ok (calls.Create p (Some (size, count)))) (path_at-again path is)
+    ∙ ap (λ (r : Result ℕ Fault). r >>= λ size. count_at (signed_decimal stripes.1) >>=
+    λ count. Ok (calls.Create path (Some (size, count)))) (number_in-again 0 (2 ^ 32) stripes.0 (omega arith) fits.0 (lit< tt))
     ∙ ap (λ (r : Result ℤ Fault). r >>= λ count. Ok (calls.Create path (Some (stripes.0, count)))) (count_at-again stripes.1 fits.1)
 
 offset_small : (offset size : ℕ) → offset + size ≤ 2 ^ 40 → offset < 2 ^ 64
@@ -261,11 +280,26 @@ call_of-again words (calls.Stat path) fits is = (names.Stat, path_text path ∷ 
 call_of-again words (calls.List path) fits is = (names.List, path_text path ∷ [], is, again_path (λ p. calls.List p) path fits)
 call_of-again words (calls.Layout path) fits is = (names.Layout, path_text path ∷ [], is, again_path (λ p. calls.Layout p) path fits)
 call_of-again words (calls.Mkdir path) fits is = (names.Mkdir, path_text path ∷ [], is, again_path (λ p. calls.Mkdir p) path fits)
-call_of-again words (calls.Create path stripes) fits is = (names.Create, path_text path ∷ stripes_words stripes, is, again_create path stripes fits.0 fits.1)
-call_of-again words (calls.Link old new) fits is = (names.Link, path_text old ∷ path_text new ∷ [], is, again_paths (λ p q. calls.Link p q) old new fits.0 fits.1)
+call_of-again words (calls.Create path stripes) fits is = (
+  names.Create,
+  path_text path ∷ stripes_words stripes,
+  is,
+  again_create path stripes fits.0 fits.1,
+)
+call_of-again words (calls.Link old new) fits is = (
+  names.Link,
+  path_text old ∷ path_text new ∷ [],
+  is,
+  again_paths (λ p q. calls.Link p q) old new fits.0 fits.1,
+)
 call_of-again words (calls.Unlink path) fits is = (names.Unlink, path_text path ∷ [], is, again_path (λ p. calls.Unlink p) path fits)
 call_of-again words (calls.Rmdir path) fits is = (names.Rmdir, path_text path ∷ [], is, again_path (λ p. calls.Rmdir p) path fits)
-call_of-again words (calls.Rename old new) fits is = (names.Rename, path_text old ∷ path_text new ∷ [], is, again_paths (λ p q. calls.Rename p q) old new fits.0 fits.1)
+call_of-again words (calls.Rename old new) fits is = (
+  names.Rename,
+  path_text old ∷ path_text new ∷ [],
+  is,
+  again_paths (λ p q. calls.Rename p q) old new fits.0 fits.1,
+)
 call_of-again words (calls.Chmod path mode) fits (text, is, form) = (
   names.Chmod,
   path_text path ∷ text ∷ [],
@@ -285,19 +319,29 @@ call_of-again words (calls.Read handle offset size) fits is = (
   names.Read,
   decimal handle ∷ decimal offset ∷ decimal size ∷ [],
   is,
-  ap (λ (r : Result ℕ Fault). r >>= λ h. number_at (decimal offset) >>= λ o. number_in 1 65536 (decimal size) >>= λ n. cond (nat_le (o + n) (2 ^ 40)) (Ok (calls.Read h o n)) (Err faults.Number)) (handle_again handle fits.0)
-      ∙ ap (λ (r : Result ℕ Fault). r >>= λ o. number_in 1 65536 (decimal size) >>= λ n. cond (nat_le (o + n) (2 ^ 40)) (Ok (calls.Read handle o n)) (Err faults.Number)) (number_at-again offset (offset_small offset size fits.3))
-      ∙ ap (λ (r : Result ℕ Fault). r >>= λ n. cond (nat_le (offset + n) (2 ^ 40)) (Ok (calls.Read handle offset n)) (Err faults.Number)) (number_in-again 1 65536 size fits.1 fits.2 (lit< tt))
-      ∙ cond-true (nat_le (offset + size) (2 ^ 40)) (Ok (calls.Read handle offset size)) (Err faults.Number) (le-leb (offset + size) (2 ^ 40) fits.3),
+  ap (λ (r : Result ℕ Fault). r >>= λ h. number_at (decimal offset) >>= λ o. number_in 1 65536 (decimal size) >>=
+      λ n. cond (nat_le (o + n) (2 ^ 40)) (Ok (calls.Read h o n)) (Err faults.Number)) (handle_again handle fits.0)
+      ∙ ap (λ (r : Result ℕ Fault). r >>= λ o. number_in 1 65536 (decimal size) >>=
+      λ n. cond (nat_le (o + n) (2 ^ 40)) (Ok (calls.Read handle o n)) (Err faults.Number))
+      (number_at-again offset (offset_small offset size fits.3))
+      ∙ ap (λ (r : Result ℕ Fault). r >>= λ n. cond (nat_le (offset + n) (2 ^ 40)) (Ok (calls.Read handle offset n)) (Err faults.Number))
+      (number_in-again 1 65536 size fits.1 fits.2 (lit< tt))
+      ∙ cond-true (nat_le (offset + size) (2 ^ 40)) (Ok (calls.Read handle offset size)) (Err faults.Number)
+      (le-leb (offset + size) (2 ^ 40) fits.3),
 )
 call_of-again words (calls.Write handle offset bytes) fits (text, is, form) = (
   names.Write,
   decimal handle ∷ decimal offset ∷ text ∷ [],
   form,
-  ap (λ (r : Result ℕ Fault). r >>= λ h. number_at (decimal offset) >>= λ o. data_at text >>= λ b. cond (nat_le (o + length b) (2 ^ 40)) (Ok (calls.Write h o b)) (Err faults.Number)) (handle_again handle fits.0)
-      ∙ ap (λ (r : Result ℕ Fault). r >>= λ o. data_at text >>= λ b. cond (nat_le (o + length b) (2 ^ 40)) (Ok (calls.Write handle o b)) (Err faults.Number)) (number_at-again offset (offset_small offset (length bytes) fits.4))
-      ∙ ap (λ (r : Result (List ℕ) Fault). r >>= λ b. cond (nat_le (offset + length b) (2 ^ 40)) (Ok (calls.Write handle offset b)) (Err faults.Number)) (data_at-again text bytes is fits.1 fits.3)
-      ∙ cond-true (nat_le (offset + length bytes) (2 ^ 40)) (Ok (calls.Write handle offset bytes)) (Err faults.Number) (le-leb (offset + length bytes) (2 ^ 40) fits.4),
+  ap (λ (r : Result ℕ Fault). r >>= λ h. number_at (decimal offset) >>= λ o. data_at text >>=
+      λ b. cond (nat_le (o + length b) (2 ^ 40)) (Ok (calls.Write h o b)) (Err faults.Number)) (handle_again handle fits.0)
+      ∙ ap (λ (r : Result ℕ Fault). r >>= λ o. data_at text >>=
+      λ b. cond (nat_le (o + length b) (2 ^ 40)) (Ok (calls.Write handle o b)) (Err faults.Number))
+      (number_at-again offset (offset_small offset (length bytes) fits.4))
+      ∙ ap (λ (r : Result (List ℕ) Fault). r >>= λ b. cond (nat_le (offset + length b) (2 ^ 40)) (Ok (calls.Write handle offset b))
+      (Err faults.Number)) (data_at-again text bytes is fits.1 fits.3)
+      ∙ cond-true (nat_le (offset + length bytes) (2 ^ 40)) (Ok (calls.Write handle offset bytes)) (Err faults.Number)
+      (le-leb (offset + length bytes) (2 ^ 40) fits.4),
 )
 call_of-again words (calls.Cut handle size) fits is = (
   names.Cut,
@@ -307,4 +351,9 @@ call_of-again words (calls.Cut handle size) fits is = (
       ∙ ap (λ (r : Result ℕ Fault). r >>= λ n. Ok (calls.Cut handle n)) (number_in-again 0 (2 ^ 40) size (omega arith) fits.1 (lit< tt)),
 )
 call_of-again words (calls.Flush handle) fits is = (names.Flush, decimal handle ∷ [], is, again_handle (λ h. calls.Flush h) handle fits)
-call_of-again words (calls.Glimpse handle) fits is = (names.Glimpse, decimal handle ∷ [], is, again_handle (λ h. calls.Glimpse h) handle fits)
+call_of-again words (calls.Glimpse handle) fits is = (
+  names.Glimpse,
+  decimal handle ∷ [],
+  is,
+  again_handle (λ h. calls.Glimpse h) handle fits,
+)

@@ -16,7 +16,8 @@ word_left k n state below = ap (λ m. words m state) (left (omega arith))
 
 -- what was drawn goes before what is left
 pub lines_left : (k n state : ℕ) (before : List SceneLine) → k < n
-    → before ++ flat_map word_lines (words (n - k) state) ≡ before ++ word_lines (mix_u64 state).0 ++ flat_map word_lines (words (n - (k + 1)) (mix_u64 state).1)
+    → before ++ flat_map word_lines (words (n - k) state) ≡ before ++ word_lines (mix_u64 state).0
+    ++ flat_map word_lines (words (n - (k + 1)) (mix_u64 state).1)
 lines_left k n state before below =
     ap (λ ws. before ++ flat_map word_lines ws) (word_left k n state below)
     ∙ sym (append_assoc before (word_lines (mix_u64 state).0) (flat_map word_lines (words (n - (k + 1)) (mix_u64 state).1)))

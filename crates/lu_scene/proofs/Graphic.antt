@@ -1,5 +1,6 @@
 -- Printed words have bytes, and no space among them.
-use Rattle.std.proofs.Common.{◌≡◌, ℕ, zero, suc, ◌/◌, ◌%◌, ◌^◌, ◌<◌, ◌≤◌, Bool, true, false, cond, ◌&&◌, List, [], ◌∷◌, ◌++◌, length, Option, Some, None, refl, sym, ◌∙◌, decimal, arith, inl, inr, lit<}
+use Rattle.std.proofs.Common.{◌≡◌, ℕ, zero, suc, ◌/◌, ◌%◌, ◌^◌, ◌<◌, ◌≤◌, Bool, true, false, cond, ◌&&◌, List, [], ◌∷◌, ◌++◌, length}
+use Rattle.std.proofs.Common.{Option, Some, None, refl, sym, ◌∙◌, decimal, arith, inl, inr, lit<}
 use Rattle.std.specs.Prelude.{nat_le, nat_lt, slice_index, ℤ, pos, negsuc, All}
 use Rattle.std.specs.List.{list_all, join_with_byte}
 use Rattle.std.specs.Char.{digit_value}
@@ -53,7 +54,8 @@ both_shown xs ys one two = list_all-append is_graphic xs ys ∙ and_from _ _ one
 
 long_word : (xs ys : List ℕ) → is_word xs ≡ true → shown ys ≡ true → is_word (xs ++ ys) ≡ true
 long_word [] ys one two = absurd (true≢false (sym one))
-long_word (x ∷ xs) ys one two = word_from x (xs ++ ys) (both_shown (x ∷ xs) ys (and_parts (nat_lt 0 (length (x ∷ xs))) (shown (x ∷ xs)) one).1 two)
+long_word (x ∷ xs) ys one two = word_from x (xs ++ ys) (both_shown (x ∷ xs) ys
+    (and_parts (nat_lt 0 (length (x ∷ xs))) (shown (x ∷ xs)) one).1 two)
 
 word_shown : (word : List ℕ) → is_word word ≡ true → shown word ≡ true
 word_shown word is = (and_parts (nat_lt 0 (length word)) (shown word) is).1
@@ -141,7 +143,8 @@ names_shown : (names : List (List ℕ)) → All IsName names → shown (join_wit
 names_shown [] are = refl
 names_shown (x ∷ []) are = name_shown x (list_all-from_AllPass is_name_byte x (All-head IsName x [] are).bytes)
 names_shown (x ∷ y ∷ more) are =
-    both_shown x (47 ∷ join_with_byte 47 (y ∷ more)) (name_shown x (list_all-from_AllPass is_name_byte x (All-head IsName x (y ∷ more) are).bytes))
+    both_shown x (47 ∷ join_with_byte 47 (y ∷ more)) (name_shown x
+    (list_all-from_AllPass is_name_byte x (All-head IsName x (y ∷ more) are).bytes))
     (names_shown (y ∷ more) (All-tail IsName x (y ∷ more) are))
 
 pub path_word : (path : List (List ℕ)) → IsPath path → is_word (path_text path) ≡ true
@@ -157,11 +160,13 @@ unfolding encode_with
 encoded_shown [] fit = refl
 encoded_shown (b ∷ more) fit =
     let small : b < 256 = fit 0 in
-    and_from _ _ (hex_shown (b / 16) (omega (arith, small))) (and_from _ _ (hex_shown (b % 16) (omega arith)) (encoded_shown more (λ i. fit (suc i))))
+    and_from _ _ (hex_shown (b / 16) (omega (arith, small))) (and_from _ _ (hex_shown (b % 16) (omega arith))
+    (encoded_shown more (λ i. fit (suc i))))
 
 encoded_word : (b : ℕ) (more : List ℕ) → IsBytes (b ∷ more) → is_word (encode_lower (b ∷ more)) ≡ true
 unfolding encode_with
-encoded_word b more fit = word_from (slice_index lower_digits (b / 16)) (slice_index lower_digits (b % 16) ∷ encode_lower more) (encoded_shown (b ∷ more) fit)
+encoded_word b more fit = word_from (slice_index lower_digits (b / 16)) (slice_index lower_digits (b % 16) ∷ encode_lower more)
+    (encoded_shown (b ∷ more) fit)
 
 pub bytes_word : (bytes : List ℕ) → IsBytes bytes → length bytes ≤ 65536 → is_word (bytes_text bytes) ≡ true
 bytes_word [] fit few = refl
@@ -197,7 +202,8 @@ target_word : (head : Head) (target : ℕ) → IsSmall head → target ≤ head.
 target_word head target small fits = let few = small.osts in lettered_word 116 target refl (omega (arith, fits, few))
 
 slot_word : (client slot : ℕ) → client < 2 ^ 64 → slot < 2 ^ 64 → is_word (slot_text client slot) ≡ true
-slot_word client slot one two = long_word (decimal client) (46 ∷ decimal slot) (decimal_word client one) (word_shown (decimal slot) (decimal_word slot two))
+slot_word client slot one two = long_word (decimal client) (46 ∷ decimal slot) (decimal_word client one)
+    (word_shown (decimal slot) (decimal_word slot two))
 
 count_word : (count : ℤ) → CountFits count → is_word (signed_decimal count) ≡ true
 unfolding digits
@@ -220,7 +226,8 @@ header_line header n small = two_words (header_text header) (decimal n) (header_
 
 stripes_are : (stripes : Option (ℕ × ℤ)) → StripesFit stripes → are_words (stripes_words stripes) ≡ true
 stripes_are None fits = refl
-stripes_are (Some stripes) fits = let most = fits.0 in two_words (decimal stripes.0) (signed_decimal stripes.1) (decimal_word stripes.0 (omega (arith, most))) (count_word stripes.1 fits.1)
+stripes_are (Some stripes) fits = let most = fits.0 in two_words (decimal stripes.0) (signed_decimal stripes.1)
+    (decimal_word stripes.0 (omega (arith, most))) (count_word stripes.1 fits.1)
 
 handle_word : (handle : ℕ) → handle ≤ 15 → is_word (decimal handle) ≡ true
 handle_word handle low = decimal_word handle (omega (arith, low))
@@ -231,23 +238,31 @@ call_line_words (calls.Stat path) fits = two_words (name_text names.Stat) (path_
 call_line_words (calls.List path) fits = two_words (name_text names.List) (path_text path) refl (path_word path fits)
 call_line_words (calls.Layout path) fits = two_words (name_text names.Layout) (path_text path) refl (path_word path fits)
 call_line_words (calls.Mkdir path) fits = two_words (name_text names.Mkdir) (path_text path) refl (path_word path fits)
-call_line_words (calls.Create path stripes) fits = and_from _ _ (call_word names.Create) (and_from _ _ (path_word path fits.0) (stripes_are stripes fits.1))
-call_line_words (calls.Link old new) fits = three_words (name_text names.Link) (path_text old) (path_text new) refl (path_word old fits.0) (path_word new fits.1)
+call_line_words (calls.Create path stripes) fits = and_from _ _ (call_word names.Create)
+    (and_from _ _ (path_word path fits.0) (stripes_are stripes fits.1))
+call_line_words (calls.Link old new) fits = three_words (name_text names.Link) (path_text old) (path_text new) refl (path_word old fits.0)
+    (path_word new fits.1)
 call_line_words (calls.Unlink path) fits = two_words (name_text names.Unlink) (path_text path) refl (path_word path fits)
 call_line_words (calls.Rmdir path) fits = two_words (name_text names.Rmdir) (path_text path) refl (path_word path fits)
-call_line_words (calls.Rename old new) fits = three_words (name_text names.Rename) (path_text old) (path_text new) refl (path_word old fits.0) (path_word new fits.1)
-call_line_words (calls.Chmod path mode) fits = three_words (name_text names.Chmod) (path_text path) (octal_text mode) refl (path_word path fits.0) (mode_word mode fits.1)
-call_line_words (calls.Open handle path) fits = three_words (name_text names.Open) (decimal handle) (path_text path) refl (handle_word handle fits.0) (path_word path fits.1)
+call_line_words (calls.Rename old new) fits = three_words (name_text names.Rename) (path_text old) (path_text new) refl
+    (path_word old fits.0) (path_word new fits.1)
+call_line_words (calls.Chmod path mode) fits = three_words (name_text names.Chmod) (path_text path) (octal_text mode) refl
+    (path_word path fits.0) (mode_word mode fits.1)
+call_line_words (calls.Open handle path) fits = three_words (name_text names.Open) (decimal handle) (path_text path) refl
+    (handle_word handle fits.0) (path_word path fits.1)
 call_line_words (calls.Close handle) fits = two_words (name_text names.Close) (decimal handle) refl (handle_word handle fits)
 call_line_words (calls.Read handle offset size) fits =
     let most = fits.3 in
-    and_from _ _ (call_word names.Read) (three_words (decimal handle) (decimal offset) (decimal size) (handle_word handle fits.0) (decimal_word offset (omega (arith, most))) (decimal_word size (omega (arith, most))))
+    and_from _ _ (call_word names.Read) (three_words (decimal handle) (decimal offset) (decimal size) (handle_word handle fits.0)
+    (decimal_word offset (omega (arith, most))) (decimal_word size (omega (arith, most))))
 call_line_words (calls.Write handle offset bytes) fits =
     let most = fits.4 in
-    and_from _ _ (call_word names.Write) (three_words (decimal handle) (decimal offset) (bytes_text bytes) (handle_word handle fits.0) (decimal_word offset (omega (arith, most))) (bytes_word bytes fits.1 fits.3))
+    and_from _ _ (call_word names.Write) (three_words (decimal handle) (decimal offset) (bytes_text bytes) (handle_word handle fits.0)
+    (decimal_word offset (omega (arith, most))) (bytes_word bytes fits.1 fits.3))
 call_line_words (calls.Cut handle size) fits =
     let most = fits.1 in
-    three_words (name_text names.Cut) (decimal handle) (decimal size) refl (handle_word handle fits.0) (decimal_word size (omega (arith, most)))
+    three_words (name_text names.Cut) (decimal handle) (decimal size) refl (handle_word handle fits.0)
+    (decimal_word size (omega (arith, most)))
 call_line_words (calls.Flush handle) fits = two_words (name_text names.Flush) (decimal handle) refl (handle_word handle fits)
 call_line_words (calls.Glimpse handle) fits = two_words (name_text names.Glimpse) (decimal handle) refl (handle_word handle fits)
 
@@ -256,19 +271,28 @@ said_words head (lines.Call client slot call) small fits =
     let few = small.clients in
     let low = fits.0 in
     let less = fits.1 in
-    and_from _ _ (verb_word verbs.Call) (and_from _ _ (slot_word client slot (omega (arith, few, low)) (omega (arith, less))) (call_line_words call fits.2))
+    and_from _ _ (verb_word verbs.Call) (and_from _ _ (slot_word client slot (omega (arith, few, low)) (omega (arith, less)))
+    (call_line_words call fits.2))
 said_words head lines.Run small fits = refl
-said_words head (lines.RunSome turns) small fits = let most = fits.1 in two_words (verb_text verbs.Run) (decimal turns) refl (decimal_word turns (omega (arith, most)))
-said_words head (lines.Deliver number) small fits = let most = fits.1 in two_words (verb_text verbs.Deliver) (decimal number) refl (decimal_word number (omega (arith, most)))
-said_words head (lines.Lose number) small fits = let most = fits.1 in two_words (verb_text verbs.Lose) (decimal number) refl (decimal_word number (omega (arith, most)))
+said_words head (lines.RunSome turns) small fits = let most = fits.1
+    in two_words (verb_text verbs.Run) (decimal turns) refl (decimal_word turns (omega (arith, most)))
+said_words head (lines.Deliver number) small fits = let most = fits.1
+    in two_words (verb_text verbs.Deliver) (decimal number) refl (decimal_word number (omega (arith, most)))
+said_words head (lines.Lose number) small fits = let most = fits.1
+    in two_words (verb_text verbs.Lose) (decimal number) refl (decimal_word number (omega (arith, most)))
 said_words head (lines.Tick node) small fits = two_words (verb_text verbs.Tick) (node_text node) refl (node_word head node small fits)
-said_words head (lines.Commit target) small fits = two_words (verb_text verbs.Commit) (target_text target.0) refl (target_word head target.0 small fits)
+said_words head (lines.Commit target) small fits = two_words (verb_text verbs.Commit) (target_text target.0) refl
+    (target_word head target.0 small fits)
 said_words head (lines.CommitSome target count) small fits =
     let most = fits.2 in
-    three_words (verb_text verbs.Commit) (target_text target.0) (decimal count) refl (target_word head target.0 small fits.0) (decimal_word count (omega (arith, most)))
-said_words head (lines.Crash target) small fits = two_words (verb_text verbs.Crash) (target_text target.0) refl (target_word head target.0 small fits)
-said_words head (lines.Boot target) small fits = two_words (verb_text verbs.Boot) (target_text target.0) refl (target_word head target.0 small fits)
-said_words head (lines.Close target) small fits = two_words (verb_text verbs.Close) (target_text target.0) refl (target_word head target.0 small fits)
+    three_words (verb_text verbs.Commit) (target_text target.0) (decimal count) refl (target_word head target.0 small fits.0)
+    (decimal_word count (omega (arith, most)))
+said_words head (lines.Crash target) small fits = two_words (verb_text verbs.Crash) (target_text target.0) refl
+    (target_word head target.0 small fits)
+said_words head (lines.Boot target) small fits = two_words (verb_text verbs.Boot) (target_text target.0) refl
+    (target_word head target.0 small fits)
+said_words head (lines.Close target) small fits = two_words (verb_text verbs.Close) (target_text target.0) refl
+    (target_word head target.0 small fits)
 said_words head (lines.Die client) small fits =
     let few = small.clients in
     two_words (verb_text verbs.Die) (client_text client) refl (lettered_word 99 client refl (omega (arith, fits, few)))

@@ -1,11 +1,13 @@
 -- Modes as words.
-use Rattle.std.proofs.Common.{◌≡◌, ℕ, ◌^◌, ◌<◌, ◌≤◌, Bool, true, false, cond, ◌&&◌, not, List, [], ◌∷◌, length, drop, Some, None, Result, Ok, Err, refl, sym, ap, ◌∙◌, subst, arith, lit<}
+use Rattle.std.proofs.Common.{◌≡◌, ℕ, ◌^◌, ◌<◌, ◌≤◌, Bool, true, false, cond, ◌&&◌, not, List, [], ◌∷◌, length, drop, Some, None, Result}
+use Rattle.std.proofs.Common.{Ok, Err, refl, sym, ap, ◌∙◌, subst, arith, lit<}
 use Rattle.std.specs.Prelude.{nat_le, nat_lt}
 use Rattle.std.specs.List.{list_all}
 use Rattle.std.specs.Result.{OkIff}
 use Rattle.std.specs.Char.{digit_value}
 use Rattle.std.specs.Str.Parse.{digits_value, ParsesUnsigned, without_leading_plus, AllDigits, IsNumeral}
-use Rattle.std.proofs.lemmas.Bool.{and_parts, and_from, true≢false, ltb-true, leb-true, ne_eqb, cond-true, cond-false, agree_below_at, true_from_ne_false}
+use Rattle.std.proofs.lemmas.Bool.{and_parts, and_from, true≢false, ltb-true, leb-true, ne_eqb, cond-true, cond-false, agree_below_at}
+use Rattle.std.proofs.lemmas.Bool.{true_from_ne_false}
 use Rattle.std.proofs.lemmas.Option.{cond_some}
 use Rattle.std.proofs.lemmas.Fmt.{IsAscii-from_digits}
 use Rattle.std.proofs.lemmas.Str.{IsUtf8-from_ascii}
@@ -21,7 +23,8 @@ octal b = nat_le 48 b && nat_le b 55
 octal_value : (b : ℕ) → octal b ≡ true → digit_value b < 8
 octal_value b test =
     let most = leb-true b 55 (and_parts (nat_le 48 b) (nat_le b 55) test).1 in
-    let all : (octal b && not (nat_lt (digit_value b) 8)) ≡ false = agree_below_at (λ (d : ℕ). octal d && not (nat_lt (digit_value d) 8)) (λ (d : ℕ). false) 56 b refl (omega (arith, most)) in
+    let all : (octal b && not (nat_lt (digit_value b) 8)) ≡ false =
+    agree_below_at (λ (d : ℕ). octal d && not (nat_lt (digit_value d) 8)) (λ (d : ℕ). false) 56 b refl (omega (arith, most)) in
     ltb-true (digit_value b) 8 (true_from_ne_false _ (λ e. true≢false (sym (and_from (octal b) _ test (ap not e)) ∙ all)))
 
 octal_all : (text : List ℕ) → list_all octal text ≡ true → AllDigits 8 text
@@ -57,7 +60,8 @@ parsed (Ok x) read is = ap (λ (n : ℕ). Ok n) read.1
 parsed (Err d) read is = absurd (read is)
 
 -- octal digits are parsed
-pub octal_parses : {E : Type 0} (text : List ℕ) (r : Result ℕ E) → is_octal text ≡ true → ParsesUnsigned 16 8 text r → r ≡ Ok (digits_value 8 text)
+pub octal_parses : {E : Type 0} (text : List ℕ) (r : Result ℕ E) → is_octal text ≡ true → ParsesUnsigned 16 8 text r → r
+    ≡ Ok (digits_value 8 text)
 octal_parses {E} text r test parses =
     let a = and_parts (nat_lt 0 (length text) && nat_le (length text) 4) (list_all octal text) test in
     let b = and_parts (nat_lt 0 (length text)) (nat_le (length text) 4) a.0 in

@@ -1,9 +1,11 @@
 -- Paths as words.
-use Rattle.std.proofs.Common.{◌≡◌, ◌≢◌, ℕ, ◌<◌, Bool, true, false, not, cond, ◌&&◌, ◌==◌, List, [], ◌∷◌, ◌++◌, length, Option, Some, None, refl, sym, ap, ◌∙◌, subst, arith}
+use Rattle.std.proofs.Common.{◌≡◌, ◌≢◌, ℕ, ◌<◌, Bool, true, false, not, cond, ◌&&◌, ◌==◌, List, [], ◌∷◌, ◌++◌, length, Option, Some, None}
+use Rattle.std.proofs.Common.{refl, sym, ap, ◌∙◌, subst, arith}
 use Rattle.std.specs.Prelude.{IfSome, IfNone, nat_lt, codes}
 use Rattle.std.specs.List.{All, list_all, slice_split, join_with_byte}
 use Rattle.std.specs.Str.{bytes_eq}
-use Rattle.std.proofs.lemmas.Bool.{true≢false, lt-ltb, leb-true, le-leb, eqb-true, ne_eqb, and_parts, and_from, not-true, not_from_false, false_from_ne_true, cond-false}
+use Rattle.std.proofs.lemmas.Bool.{true≢false, lt-ltb, leb-true, le-leb, eqb-true, ne_eqb, and_parts, and_from, not-true, not_from_false}
+use Rattle.std.proofs.lemmas.Bool.{false_from_ne_true, cond-false}
 use Rattle.std.proofs.lemmas.Option.{cond_some}
 use Rattle.std.proofs.lemmas.List.Elements.{All-nil, All-cons, All-head, All-tail}
 use Rattle.std.proofs.lemmas.List.Sums.{AllPass-from_list_all, list_all-from_AllPass}
@@ -26,7 +28,9 @@ bytes_other xs ys test same = true≢false (sym (same_bytes xs ys same) ∙ not-
 
 pub is_name-from : (name : List ℕ) → IsName name → is_name name ≡ true
 is_name-from name is =
-    and_from _ _ (and_from _ _ (and_from _ _ (lt-ltb 0 (length name) (filled name is.filled)) (list_all-from_AllPass is_name_byte name is.bytes)) (other_bytes name (codes ".") is.not_here)) (other_bytes name (codes "..") is.not_above)
+    and_from _ _ (and_from _ _ (and_from _ _ (lt-ltb 0 (length name) (filled name is.filled))
+    (list_all-from_AllPass is_name_byte name is.bytes)) (other_bytes name (codes ".") is.not_here))
+    (other_bytes name (codes "..") is.not_above)
 
 pub is_name-true : (name : List ℕ) → is_name name ≡ true → IsName name
 is_name-true name test =
@@ -52,7 +56,8 @@ names-true (x ∷ xs) test =
 
 pub is_path-from : (names : List (List ℕ)) → IsPath names → is_path names ≡ true
 is_path-from names is =
-    and_from _ _ (and_from _ _ (le-leb (length names) 32 is.are_names.0) (le-leb (length (path_text names)) 1024 is.bytes)) (names-from names is.are_names.1)
+    and_from _ _ (and_from _ _ (le-leb (length names) 32 is.are_names.0) (le-leb (length (path_text names)) 1024 is.bytes))
+    (names-from names is.are_names.1)
 
 pub is_path-true : (names : List (List ℕ)) → is_path names ≡ true → IsPath names
 is_path-true names test =
@@ -64,7 +69,8 @@ is_path-true names test =
 joined : (rest : List ℕ) → join_with_byte 47 (between_slashes rest) ≡ rest
 joined [] = refl
 joined (b ∷ more) =
-    ap (join_with_byte 47) (cond-false (length (b ∷ more) == 0) [] (slice_split (λ c. c == 47) (b ∷ more)) (ne_eqb (length (b ∷ more)) 0 (λ e. omega arith)))
+    ap (join_with_byte 47) (cond-false (length (b ∷ more) == 0) [] (slice_split (λ c. c == 47) (b ∷ more))
+    (ne_eqb (length (b ∷ more)) 0 (λ e. omega arith)))
     ∙ join_with_byte-slice_split 47 (b ∷ more)
 
 -- a joined list that begins with a name isn't empty
@@ -95,11 +101,13 @@ path_of-read (b ∷ rest) names e =
     let found = cond_some (b == 47 && is_path (between_slashes rest)) (between_slashes rest) names e in
     let parts = and_parts (b == 47) (is_path (between_slashes rest)) found.0 in (
       subst IsPath found.1 (is_path-true (between_slashes rest) parts.1),
-      ap (λ (c : ℕ). c ∷ rest) (eqb-true b 47 parts.0) ∙ ap (λ (xs : List ℕ). 47 ∷ xs) (sym (joined rest)) ∙ ap (λ (xs : List (List ℕ)). 47 ∷ join_with_byte 47 xs) found.1,
+      ap (λ (c : ℕ). c ∷ rest) (eqb-true b 47 parts.0) ∙ ap (λ (xs : List ℕ). 47 ∷ xs) (sym (joined rest))
+          ∙ ap (λ (xs : List (List ℕ)). 47 ∷ join_with_byte 47 xs) found.1,
     )
 
 -- what a reader of paths answers
 pub path_of-answered : (r : Option (List (List ℕ))) (text : List ℕ) → IfSome r (λ names. IsPath names × (text ≡ path_text names))
     → IfNone r ((names : List (List ℕ)) → IsPath names → text ≢ path_text names) → path_of text ≡ r
 path_of-answered (Some names) text some none = ap path_of some.1 ∙ path_of-text names some.0
-path_of-answered None text some none = none_from (path_of text) (λ names e. let read = path_of-read text names e in none names read.0 read.1)
+path_of-answered None text some none = none_from (path_of text)
+    (λ names e. let read = path_of-read text names e in none names read.0 read.1)

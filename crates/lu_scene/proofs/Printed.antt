@@ -1,5 +1,6 @@
 -- Printing lines one after the other.
-use Rattle.std.proofs.Common.{◌≡◌, ℕ, ◌+◌, ◌<◌, ◌≤◌, List, [], ◌∷◌, ◌++◌, length, get_or, take, map, refl, sym, ap, ◌∙◌, append_assoc, add-one}
+use Rattle.std.proofs.Common.{◌≡◌, ℕ, ◌+◌, ◌<◌, ◌≤◌, List, [], ◌∷◌, ◌++◌, length, get_or, take, map, refl, sym, ap, ◌∙◌, append_assoc}
+use Rattle.std.proofs.Common.{add-one}
 use Rattle.std.proofs.Math.Seq.{take-suc}
 use Rattle.std.proofs.lemmas.List.{map-append, take_all}
 use Rattle.lu_scene.specs.declared.scene.SceneLine.{SceneLine}
@@ -15,14 +16,16 @@ lines_text-append (w ∷ ws) ys =
     ap (λ (t : List ℕ). words w ++ 10 ∷ t) (lines_text-append ws ys) ∙ sym (append_assoc (words w) (10 ∷ lines_text ws) (lines_text ys))
 
 -- one more line
-pub line_more : (old now after : List ℕ) (before : List (List (List ℕ))) (line : List (List ℕ)) → now ≡ old ++ lines_text before → after ≡ now ++ (words line ++ 10 ∷ [])
+pub line_more : (old now after : List ℕ) (before : List (List (List ℕ))) (line : List (List ℕ)) → now ≡ old ++ lines_text before → after
+    ≡ now ++ (words line ++ 10 ∷ [])
     → after ≡ old ++ lines_text (before ++ line ∷ [])
 line_more old now after before line so_far added =
     added ∙ ap (λ (t : List ℕ). t ++ (words line ++ 10 ∷ [])) so_far ∙ append_assoc old (lines_text before) (words line ++ 10 ∷ [])
     ∙ ap (λ (t : List ℕ). old ++ t) (sym (lines_text-append before (line ∷ [])))
 
 -- seven lines
-pub seven : (o a b c d e f g : List ℕ) (p q r s t u v : List (List ℕ)) → a ≡ o ++ (words p ++ 10 ∷ []) → b ≡ a ++ (words q ++ 10 ∷ []) → c ≡ b ++ (words r ++ 10 ∷ [])
+pub seven : (o a b c d e f g : List ℕ) (p q r s t u v : List (List ℕ)) → a ≡ o ++ (words p ++ 10 ∷ []) → b ≡ a ++ (words q ++ 10 ∷ []) → c
+    ≡ b ++ (words r ++ 10 ∷ [])
     → d ≡ c ++ (words s ++ 10 ∷ []) → e ≡ d ++ (words t ++ 10 ∷ []) → f ≡ e ++ (words u ++ 10 ∷ []) → g ≡ f ++ (words v ++ 10 ∷ [])
     → g ≡ o ++ lines_text (p ∷ q ∷ r ∷ s ∷ t ∷ u ∷ v ∷ [])
 seven o a b c d e f g p q r s t u v one two three four five six last =
@@ -48,7 +51,8 @@ said_more now put after head lines i d within so_far added ended =
 -- the text of all lines
 pub all_said : (now : List ℕ) (head : List (List (List ℕ))) (items said : List SceneLine) (i : ℕ) → length items ≤ i → items ≡ said
     → now ≡ lines_text (head ++ map line_words (take i items)) → now ≡ lines_text (head ++ map line_words said)
-all_said now head items said i past same so_far = so_far ∙ ap (λ (ls : List SceneLine). lines_text (head ++ map line_words ls)) (take_all i items past ∙ same)
+all_said now head items said i past same so_far = so_far ∙ ap (λ (ls : List SceneLine). lines_text (head ++ map line_words ls))
+    (take_all i items past ∙ same)
 
 -- a call behind its slot
 pub call_behind : (slot : List ℕ) (call : Call) → words (slot ∷ call_words call) ≡ slot ++ 32 ∷ call_text call

@@ -1,11 +1,13 @@
 -- Each kind of word: what is read is so written, and what is so written is read.
-use Rattle.std.proofs.Common.{◌≡◌, ℕ, zero, suc, ◌^◌, ◌<◌, ◌≤◌, ◌==◌, Bool, true, false, cond, ◌&&◌, List, [], ◌∷◌, length, replicate, Option, Some, None, Result, Ok, Err, refl, sym, ap, subst, ◌∙◌, decimal, arith, inl, inr, lit<}
+use Rattle.std.proofs.Common.{◌≡◌, ℕ, zero, suc, ◌^◌, ◌<◌, ◌≤◌, ◌==◌, Bool, true, false, cond, ◌&&◌, List, [], ◌∷◌, length, replicate}
+use Rattle.std.proofs.Common.{Option, Some, None, Result, Ok, Err, refl, sym, ap, subst, ◌∙◌, decimal, arith, inl, inr, lit<}
 use Rattle.std.specs.Prelude.{nat_le, nat_lt, codes, slice_index, ℤ, pos, negsuc}
 use Rattle.std.specs.List.{All, slice_split, join_with_byte}
 use Rattle.std.specs.Str.{bytes_eq}
 use Rattle.std.specs.Str.Parse.{AllDigits}
 use Rattle.std.specs.Char.{digit_value}
-use Rattle.std.proofs.lemmas.Bool.{ltb-true, lt-ltb, leb-true, le-leb, eqb-true, eq-eqb, ne_eqb, and_parts, and_from, false_from_ne_true, cond-true, cond-false}
+use Rattle.std.proofs.lemmas.Bool.{ltb-true, lt-ltb, leb-true, le-leb, eqb-true, eq-eqb, ne_eqb, and_parts, and_from, false_from_ne_true}
+use Rattle.std.proofs.lemmas.Bool.{cond-true, cond-false}
 use Rattle.std.proofs.lemmas.Fmt.{decimal_is_IsNumeral}
 use Rattle.std.proofs.lemmas.List.Elements.{All-nil, All-cons}
 use Rattle.std.proofs.lemmas.List.Splits.{slice_split_none, slice_split_at, join_with_byte-slice_split}
@@ -17,7 +19,8 @@ use Rattle.lu_base.specs.declared.ids.TargetId.{TargetId}
 use Rattle.lu_scene.specs.declared.faults.Fault.{Fault}
 use Rattle.lu_scene.specs.declared.faults.Fault.TheVariants as faults
 use Rattle.lu_scene.specs.declared.scene.Head.{Head}
-use Rattle.lu_scene.specs.Fields.{◌>>=◌, or_fault, number_of, number_in, number_at, mode_of, mode_at, count_at, number_behind, client_at, target_at, node_at, slot_of, slot_at, path_of, path_at, data_of, data_at}
+use Rattle.lu_scene.specs.Fields.{◌>>=◌, or_fault, number_of, number_in, number_at, mode_of, mode_at, count_at, number_behind, client_at}
+use Rattle.lu_scene.specs.Fields.{target_at, node_at, slot_of, slot_at, path_of, path_at, data_of, data_at}
 use Rattle.lu_base.specs.Values.{client_text, target_text, node_text}
 use Rattle.std.specs.Fmt.{digits, signed_decimal}
 use Rattle.lu_scene.specs.Print.{slot_text}
@@ -47,11 +50,16 @@ number_in-read least most word n e =
     let b = bind_ok (number_at word) (λ m. cond (nat_le least m && nat_le m most) (Ok m) (Err faults.Number)) n e in
     let g = guard_ok (nat_le least b.0 && nat_le b.0 most) faults.Number b.0 n b.2 in
     let parts = and_parts (nat_le least b.0) (nat_le b.0 most) g.0 in
-    subst (λ (m : ℕ). Ranged least most word m) g.1 (record { text = (number_at-read word b.0 b.1).0; low = leb-true least b.0 parts.0; high = leb-true b.0 most parts.1 })
+    subst (λ (m : ℕ). Ranged least most word m) g.1 (record {
+      text = (number_at-read word b.0 b.1).0;
+      low = leb-true least b.0 parts.0;
+      high = leb-true b.0 most parts.1;
+    })
 
 pub number_in-again : (least most n : ℕ) → least ≤ n → n ≤ most → most < 2 ^ 64 → number_in least most (decimal n) ≡ Ok n
 number_in-again least most n low high small =
-    ap (λ (r : Result ℕ Fault). r >>= λ m. cond (nat_le least m && nat_le m most) (Ok m) (Err faults.Number)) (number_at-again n (omega (arith, high, small)))
+    ap (λ (r : Result ℕ Fault). r >>= λ m. cond (nat_le least m && nat_le m most) (Ok m) (Err faults.Number))
+    (number_at-again n (omega (arith, high, small)))
     ∙ cond-true (nat_le least n && nat_le n most) (Ok n) (Err faults.Number) (and_from _ _ (le-leb least n low) (le-leb n most high))
 
 -- modes
@@ -62,7 +70,8 @@ mode_at-read word mode e =
     (is, subst (λ (n : ℕ). n < 4096) (sym is.1) (small_mode word is.0))
 
 pub mode_at-again : (word : List ℕ) (mode : ℕ) → IsModeText word mode → mode_at word ≡ Ok mode
-mode_at-again word mode is = ap (or_fault faults.Number) (mode_of-octal word is.0) ∙ ap (λ (n : ℕ). or_fault faults.Number (Some n)) (sym is.1)
+mode_at-again word mode is = ap (or_fault faults.Number) (mode_of-octal word is.0)
+    ∙ ap (λ (n : ℕ). or_fault faults.Number (Some n)) (sym is.1)
 
 -- numbers of stripes
 
@@ -80,8 +89,10 @@ not_minus n small = false_from_ne_true _ (λ e.
 pub count_at-read : (word : List ℕ) (count : ℤ) → count_at word ≡ Ok count → (word ≡ signed_decimal count) × CountFits count
 count_at-read word count e = by (bytes_eq word (codes "-1")) refl e
   where
-    by : (b : Bool) → bytes_eq word (codes "-1") ≡ b → cond b (Ok (negsuc 0)) (number_in 0 1000 word >>= λ n. Ok (pos n)) ≡ Ok count → (word ≡ signed_decimal count) × CountFits count
-    by true is read = subst (λ (z : ℤ). (word ≡ signed_decimal z) × CountFits z) (ok_is (negsuc 0) count read) (bytes_same word (codes "-1") is ∙ sym minus_one, refl)
+    by : (b : Bool) → bytes_eq word (codes "-1") ≡ b → cond b (Ok (negsuc 0)) (number_in 0 1000 word >>= λ n. Ok (pos n)) ≡ Ok count
+        → (word ≡ signed_decimal count) × CountFits count
+    by true is read = subst (λ (z : ℤ). (word ≡ signed_decimal z) × CountFits z) (ok_is (negsuc 0) count read)
+        (bytes_same word (codes "-1") is ∙ sym minus_one, refl)
     by false is read =
         let b = bind_ok (number_in 0 1000 word) (λ n. Ok (pos n)) count read in
         let r = number_in-read 0 1000 word b.0 b.1 in
@@ -107,9 +118,11 @@ behind-read letter (b ∷ digits) n e = by (b == letter) refl e
     by false is read = absurd cc
 
 behind-again : (letter n : ℕ) → n < 2 ^ 64 → number_behind letter (letter ∷ decimal n) ≡ Some n
-behind-again letter n small = cond-true (letter == letter) (number_of (decimal n)) None (eq-eqb letter letter refl) ∙ number_of-decimal n small
+behind-again letter n small = cond-true (letter == letter) (number_of (decimal n)) None (eq-eqb letter letter refl)
+    ∙ number_of-decimal n small
 
-pub client_at-read : (clients : ℕ) (word : List ℕ) (client : ℕ) → client_at clients word ≡ Ok client → (word ≡ client_text client) × (client < clients)
+pub client_at-read : (clients : ℕ) (word : List ℕ) (client : ℕ) → client_at clients word ≡ Ok client → (word ≡ client_text client)
+    × (client < clients)
 client_at-read clients word client e =
     let b = bind_ok (or_fault faults.Node (number_behind 99 word)) (λ n. cond (nat_lt n clients) (Ok n) (Err faults.Node)) client e in
     let is = behind-read 99 word b.0 (or_fault_ok faults.Node (number_behind 99 word) b.0 b.1) in
@@ -118,39 +131,49 @@ client_at-read clients word client e =
 
 pub client_at-again : (clients client : ℕ) → client < clients → clients ≤ 16 → client_at clients (client_text client) ≡ Ok client
 client_at-again clients client within few =
-    ap (λ (o : Option ℕ). or_fault faults.Node o >>= λ n. cond (nat_lt n clients) (Ok n) (Err faults.Node)) (behind-again 99 client (omega (arith, within, few)))
+    ap (λ (o : Option ℕ). or_fault faults.Node o >>= λ n. cond (nat_lt n clients) (Ok n) (Err faults.Node))
+    (behind-again 99 client (omega (arith, within, few)))
     ∙ cond-true (nat_lt client clients) (Ok client) (Err faults.Node) (lt-ltb client clients within)
 
 target_of : ℕ → TargetId
 target_of n = record { 0 = n }
 
-pub target_at-read : (osts : ℕ) (word : List ℕ) (target : TargetId) → target_at osts word ≡ Ok target → (word ≡ target_text target.0) × (target.0 ≤ osts)
+pub target_at-read : (osts : ℕ) (word : List ℕ) (target : TargetId) → target_at osts word ≡ Ok target → (word ≡ target_text target.0)
+    × (target.0 ≤ osts)
 target_at-read osts word target e =
-    let b = bind_ok (or_fault faults.Node (number_behind 116 word)) (λ n. cond (nat_le n osts) (Ok (record { 0 = n })) (Err faults.Node)) target e in
+    let b = bind_ok (or_fault faults.Node (number_behind 116 word)) (λ n. cond (nat_le n osts) (Ok (record { 0 = n })) (Err faults.Node))
+    target e in
     let is = behind-read 116 word b.0 (or_fault_ok faults.Node (number_behind 116 word) b.0 b.1) in
     let g = guard_ok (nat_le b.0 osts) faults.Node (record { 0 = b.0 }) target b.2 in
     subst (λ (t : TargetId). (word ≡ target_text t.0) × (t.0 ≤ osts)) g.1 (is.0, leb-true b.0 osts g.0)
 
 pub target_at-again : (osts : ℕ) (target : TargetId) → target.0 ≤ osts → osts ≤ 8 → target_at osts (target_text target.0) ≡ Ok target
 target_at-again osts target within few =
-    ap (λ (o : Option ℕ). or_fault faults.Node o >>= λ n. cond (nat_le n osts) (Ok (record { 0 = n })) (Err faults.Node)) (behind-again 116 target.0 (omega (arith, within, few)))
+    ap (λ (o : Option ℕ). or_fault faults.Node o >>= λ n. cond (nat_le n osts) (Ok (record { 0 = n })) (Err faults.Node))
+    (behind-again 116 target.0 (omega (arith, within, few)))
     ∙ cond-true (nat_le target.0 osts) (Ok target) (Err faults.Node) (le-leb target.0 osts within)
 
-pub node_at-read : (head : Head) (word : List ℕ) (node : Node) → node_at head.clients head.osts word ≡ Ok node → (word ≡ node_text node) × NodeFits head node
+pub node_at-read : (head : Head) (word : List ℕ) (node : Node) → node_at head.clients head.osts word ≡ Ok node → (word ≡ node_text node)
+    × NodeFits head node
 node_at-read head word node e = by (slice_index word 0 == 99) e
   where
-    by : (v : Bool) → cond v (client_at head.clients word >>= λ client. Ok (Client client)) (target_at head.osts word >>= λ target. Ok (Target target.0)) ≡ Ok node
+    by : (v : Bool) → cond v (client_at head.clients word >>= λ client. Ok (Client client))
+        (target_at head.osts word >>= λ target. Ok (Target target.0)) ≡ Ok node
         → (word ≡ node_text node) × NodeFits head node
     by true read =
         let b = bind_ok (client_at head.clients word) (λ client. Ok (Client client)) node read in
-        subst (λ (n : Node). (word ≡ node_text n) × NodeFits head n) (ok_is (Client b.0) node b.2) (client_at-read head.clients word b.0 b.1)
+        subst (λ (n : Node). (word ≡ node_text n) × NodeFits head n) (ok_is (Client b.0) node b.2)
+        (client_at-read head.clients word b.0 b.1)
     by false read =
         let b = bind_ok (target_at head.osts word) (λ target. Ok (Target target.0)) node read in
         subst (λ (n : Node). (word ≡ node_text n) × NodeFits head n) (ok_is (Target b.0.0) node b.2) (target_at-read head.osts word b.0 b.1)
 
-pub node_at-again : (head : Head) (node : Node) → NodeFits head node → head.clients ≤ 16 → head.osts ≤ 8 → node_at head.clients head.osts (node_text node) ≡ Ok node
-node_at-again head (Client client) fits few some = ap (λ (r : Result ℕ Fault). r >>= λ c. Ok (Client c)) (client_at-again head.clients client fits few)
-node_at-again head (Target target) fits few some = ap (λ (r : Result TargetId Fault). r >>= λ t. Ok (Target t.0)) (target_at-again head.osts (record { 0 = target }) fits some)
+pub node_at-again : (head : Head) (node : Node) → NodeFits head node → head.clients ≤ 16 → head.osts ≤ 8
+    → node_at head.clients head.osts (node_text node) ≡ Ok node
+node_at-again head (Client client) fits few some = ap (λ (r : Result ℕ Fault). r >>= λ c. Ok (Client c))
+    (client_at-again head.clients client fits few)
+node_at-again head (Target target) fits few some = ap (λ (r : Result TargetId Fault). r >>= λ t. Ok (Target t.0))
+    (target_at-again head.osts (record { 0 = target }) fits some)
 
 -- slots
 
@@ -160,16 +183,22 @@ slot_of-read clients [] slot e = absurd cc
 slot_of-read clients (first ∷ []) slot e = absurd cc
 slot_of-read clients (first ∷ second ∷ third ∷ more) slot e = absurd cc
 slot_of-read clients (first ∷ second ∷ []) slot e =
-    let a = bind_ok (or_fault faults.Node (number_of first)) (λ n. or_fault faults.Node (number_of second) >>= λ m. cond (nat_lt n clients && nat_le m 3) (Ok (n, m)) (Err faults.Node)) slot e in
-    let b = bind_ok (or_fault faults.Node (number_of second)) (λ m. cond (nat_lt a.0 clients && nat_le m 3) (Ok (a.0, m)) (Err faults.Node)) slot a.2 in
+    let a = bind_ok (or_fault faults.Node (number_of first)) (λ n. or_fault faults.Node (number_of second) >>=
+    λ m. cond (nat_lt n clients && nat_le m 3) (Ok (n, m)) (Err faults.Node)) slot e in
+    let b = bind_ok (or_fault faults.Node (number_of second)) (λ m. cond (nat_lt a.0 clients && nat_le m 3) (Ok (a.0, m)) (Err faults.Node))
+    slot a.2 in
     let g = guard_ok (nat_lt a.0 clients && nat_le b.0 3) faults.Node (a.0, b.0) slot b.2 in
     let parts = and_parts (nat_lt a.0 clients) (nat_le b.0 3) g.0 in
     let one = number_of-read first a.0 (or_fault_ok faults.Node (number_of first) a.0 a.1) in
     let two = number_of-read second b.0 (or_fault_ok faults.Node (number_of second) b.0 b.1) in
-    subst (λ (s : ℕ × ℕ). (first ∷ second ∷ [] ≡ decimal s.0 ∷ decimal s.1 ∷ []) × (s.0 < clients) × (s.1 ≤ 3)) g.1
-    (ap (λ (w : List ℕ). w ∷ second ∷ []) one.0 ∙ ap (λ (w : List ℕ). decimal a.0 ∷ w ∷ []) two.0, ltb-true a.0 clients parts.0, leb-true b.0 3 parts.1)
+    subst (λ (s : ℕ × ℕ). (first ∷ second ∷ [] ≡ decimal s.0 ∷ decimal s.1 ∷ []) × (s.0 < clients) × (s.1 ≤ 3)) g.1 (
+      ap (λ (w : List ℕ). w ∷ second ∷ []) one.0 ∙ ap (λ (w : List ℕ). decimal a.0 ∷ w ∷ []) two.0,
+      ltb-true a.0 clients parts.0,
+      leb-true b.0 3 parts.1,
+    )
 
-pub slot_at-read : (clients : ℕ) (word : List ℕ) (slot : ℕ × ℕ) → slot_at clients word ≡ Ok slot → (word ≡ slot_text slot.0 slot.1) × (slot.0 < clients) × (slot.1 ≤ 3)
+pub slot_at-read : (clients : ℕ) (word : List ℕ) (slot : ℕ × ℕ) → slot_at clients word ≡ Ok slot → (word ≡ slot_text slot.0 slot.1)
+    × (slot.0 < clients) × (slot.1 ≤ 3)
 slot_at-read clients word slot e =
     let is = slot_of-read clients (slice_split (λ b. b == 46) word) slot e in
     (sym (join_with_byte-slice_split 46 word) ∙ ap (join_with_byte 46) is.0, is.1, is.2)
@@ -185,7 +214,8 @@ digits_no_dot (b ∷ more) digits =
 no_dot : (n : ℕ) → n < 2 ^ 64 → All (λ b. (b == 46) ≡ false) (decimal n)
 no_dot n small = digits_no_dot (decimal n) (decimal_is_IsNumeral n small).0.1
 
-pub slot_at-again : (clients client slot : ℕ) → client < clients → slot ≤ 3 → clients ≤ 16 → slot_at clients (slot_text client slot) ≡ Ok (client, slot)
+pub slot_at-again : (clients client slot : ℕ) → client < clients → slot ≤ 3 → clients ≤ 16 → slot_at clients (slot_text client slot)
+    ≡ Ok (client, slot)
 slot_at-again clients client slot within low few =
     let small : client < 2 ^ 64 = omega (arith, within, few) in
     let short : slot < 2 ^ 64 = omega (arith, low) in
@@ -193,9 +223,12 @@ slot_at-again clients client slot within low few =
     slice_split_at (λ b. b == 46) (decimal client) 46 (decimal slot) (no_dot client small) refl
     ∙ ap (λ (ws : List (List ℕ)). decimal client ∷ ws) (slice_split_none (λ b. b == 46) (decimal slot) (no_dot slot short)) in
     ap (slot_of clients) split
-    ∙ ap (λ (o : Option ℕ). or_fault faults.Node o >>= λ n. or_fault faults.Node (number_of (decimal slot)) >>= λ m. cond (nat_lt n clients && nat_le m 3) (Ok (n, m)) (Err faults.Node)) (number_of-decimal client small)
-    ∙ ap (λ (o : Option ℕ). or_fault faults.Node o >>= λ m. cond (nat_lt client clients && nat_le m 3) (Ok (client, m)) (Err faults.Node)) (number_of-decimal slot short)
-    ∙ cond-true (nat_lt client clients && nat_le slot 3) (Ok (client, slot)) (Err faults.Node) (and_from _ _ (lt-ltb client clients within) (le-leb slot 3 low))
+    ∙ ap (λ (o : Option ℕ). or_fault faults.Node o >>= λ n. or_fault faults.Node (number_of (decimal slot)) >>=
+    λ m. cond (nat_lt n clients && nat_le m 3) (Ok (n, m)) (Err faults.Node)) (number_of-decimal client small)
+    ∙ ap (λ (o : Option ℕ). or_fault faults.Node o >>= λ m. cond (nat_lt client clients && nat_le m 3) (Ok (client, m)) (Err faults.Node))
+    (number_of-decimal slot short)
+    ∙ cond-true (nat_lt client clients && nat_le slot 3) (Ok (client, slot)) (Err faults.Node)
+    (and_from _ _ (lt-ltb client clients within) (le-leb slot 3 low))
 
 -- paths
 
@@ -218,20 +251,28 @@ data_filled : (word bytes : List ℕ) → IsDataText word bytes → 1 ≤ length
 data_filled word [] (inl digits) = absurd (digits.1 refl)
 data_filled word (b ∷ bs) (inl digits) = omega arith
 data_filled word bytes (inr (byte, zero, small, one, most, is, are)) = absurd (omega (arith, one))
-data_filled word bytes (inr (byte, suc n, small, one, most, is, are)) = subst (λ (xs : List ℕ). 1 ≤ length xs) (sym are) (long (replicate n byte))
+data_filled word bytes (inr (byte, suc n, small, one, most, is, are)) =
+    subst (λ (xs : List ℕ). 1 ≤ length xs) (sym are) (long (replicate n byte))
   where
     long : (xs : List ℕ) → 1 ≤ length (byte ∷ xs)
     long xs = omega arith
 
 pub data_at-read : (word bytes : List ℕ) → data_at word ≡ Ok bytes → IsData word bytes
 data_at-read word bytes e =
-    let b = bind_ok (or_fault faults.Data (data_of word)) (λ found. cond (nat_le (length found) 65536) (Ok found) (Err faults.Data)) bytes e in
+    let b = bind_ok (or_fault faults.Data (data_of word)) (λ found. cond (nat_le (length found) 65536) (Ok found) (Err faults.Data)) bytes e
+    in
     let g = guard_ok (nat_le (length b.0) 65536) faults.Data b.0 bytes b.2 in
     let found = or_fault_ok faults.Data (data_of word) b.0 b.1 in
     let is = data_of-read word b.0 found in
-    subst (λ (xs : List ℕ). IsData word xs) g.1 (record { text = is; fit = data_of-bytes word b.0 found; some = data_filled word b.0 is; few = leb-true (length b.0) 65536 g.0 })
+    subst (λ (xs : List ℕ). IsData word xs) g.1 (record {
+      text = is;
+      fit = data_of-bytes word b.0 found;
+      some = data_filled word b.0 is;
+      few = leb-true (length b.0) 65536 g.0;
+    })
 
 pub data_at-again : (word bytes : List ℕ) → IsDataText word bytes → IsBytes bytes → length bytes ≤ 65536 → data_at word ≡ Ok bytes
 data_at-again word bytes is fits few =
-    ap (λ (o : Option (List ℕ)). or_fault faults.Data o >>= λ found. cond (nat_le (length found) 65536) (Ok found) (Err faults.Data)) (data_of-text word bytes fits is)
+    ap (λ (o : Option (List ℕ)). or_fault faults.Data o >>= λ found. cond (nat_le (length found) 65536) (Ok found) (Err faults.Data))
+    (data_of-text word bytes fits is)
     ∙ cond-true (nat_le (length bytes) 65536) (Ok bytes) (Err faults.Data) (le-leb (length bytes) 65536 few)

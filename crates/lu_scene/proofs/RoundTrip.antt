@@ -1,5 +1,6 @@
 -- What is printed is the scenario that was printed.
-use Rattle.std.proofs.Common.{◌≡◌, ◌≢◌, ℕ, ◌^◌, ◌<◌, ◌≤◌, ◌==◌, Bool, true, false, cond, ◌&&◌, List, [], ◌∷◌, ◌++◌, length, map, replicate, refl, sym, ap, subst, ◌∙◌, decimal, arith, inl, inr, lit<, lit≤}
+use Rattle.std.proofs.Common.{◌≡◌, ◌≢◌, ℕ, ◌^◌, ◌<◌, ◌≤◌, ◌==◌, Bool, true, false, cond, ◌&&◌, List, [], ◌∷◌, ◌++◌, length, map, replicate}
+use Rattle.std.proofs.Common.{refl, sym, ap, subst, ◌∙◌, decimal, arith, inl, inr, lit<, lit≤}
 use Rattle.std.specs.Prelude.{nat_lt, All}
 use Rattle.std.specs.List.{list_all}
 use Rattle.std.specs.Str.Parse.{digits_value}
@@ -25,7 +26,8 @@ use Rattle.lu_scene.specs.Lines.{most_of, is_comment}
 use Rattle.lu_trace.specs.Words.{words}
 use Rattle.lu_trace.specs.Calls.{call_words}
 use Rattle.lu_scene.specs.Print.{header_words, head_words, line_words, scene_words, scene_text}
-use Rattle.lu_scene.specs.Grammar.{CallFits, LineFits, Setting, SettingFits, head_of, StandOnce, IsModeText, IsCall, IsForm, AreLines, Spells, IsScene, HeadFits, SceneFits, HasShortLines}
+use Rattle.lu_scene.specs.Grammar.{CallFits, LineFits, Setting, SettingFits, head_of, StandOnce, IsModeText, IsCall, IsForm, AreLines}
+use Rattle.lu_scene.specs.Grammar.{Spells, IsScene, HeadFits, SceneFits, HasShortLines}
 use Rattle.lu_scene.proofs.LineForms.{IsSmall}
 use Rattle.lu_scene.proofs.Graphic.{header_line, said_words}
 use Rattle.lu_scene.proofs.Splitting.{Neat, lines_back, all_plain, sayings_back}
@@ -53,7 +55,8 @@ data_text : (bytes : List ℕ) → IsBytes bytes → 1 ≤ length bytes → leng
 data_text [] fit some few = absurd (omega (arith, some))
 data_text (b ∷ more) fit some few = by (is_repeated (b ∷ more)) refl
   where
-    by : (v : Bool) → is_repeated (b ∷ more) ≡ v → IsDataText (cond v (repeated_text b (length (b ∷ more))) (encode_lower (b ∷ more))) (b ∷ more)
+    by : (v : Bool) → is_repeated (b ∷ more) ≡ v → IsDataText (cond v (repeated_text b (length (b ∷ more))) (encode_lower (b ∷ more)))
+        (b ∷ more)
     by true same =
         let parts = and_parts (nat_lt 0 (length more)) (list_all (λ other. other == b) more) same in
         inr (b, length (b ∷ more), fit 0, some, few, refl, ap (λ (ds : List ℕ). b ∷ ds) (all_same b more parts.1))
@@ -104,8 +107,10 @@ lines_are head (l ∷ ls) fit =
 -- the lines of a head, all seven
 abbrev settings_of : Head → List Setting
 settings_of head =
-    record { header = headers.Clients; number = head.clients } ∷ record { header = headers.Osts; number = head.osts } ∷ record { header = headers.Expire; number = head.expire }
-    ∷ record { header = headers.Dirty; number = head.dirty } ∷ record { header = headers.Unused; number = head.unused } ∷ record { header = headers.Rounds; number = head.rounds }
+    record { header = headers.Clients; number = head.clients } ∷ record { header = headers.Osts; number = head.osts }
+    ∷ record { header = headers.Expire; number = head.expire }
+    ∷ record { header = headers.Dirty; number = head.dirty } ∷ record { header = headers.Unused; number = head.unused }
+    ∷ record { header = headers.Rounds; number = head.rounds }
     ∷ record { header = headers.Flight; number = head.flight } ∷ []
 
 head_back : (head : Head) → head ≡ head_of (settings_of head)
@@ -219,7 +224,8 @@ line_some (lines.Boot target) none = cc none
 line_some (lines.Close target) none = cc none
 line_some (lines.Die client) none = cc none
 
-said_neat : (head : Head) (said : List SceneLine) → IsSmall head → All (LineFits head) said → All (λ line. length (words (line_words line)) ≤ 2000) said → All Neat (map line_words said)
+said_neat : (head : Head) (said : List SceneLine) → IsSmall head → All (LineFits head) said
+    → All (λ line. length (words (line_words line)) ≤ 2000) said → All Neat (map line_words said)
 said_neat head [] small fit short = All-nil Neat
 said_neat head (l ∷ ls) small fit short =
     All-cons Neat (line_words l) (map line_words ls)
@@ -236,7 +242,8 @@ pub text_is_scene : (scene : Scene) → SceneFits scene → HasShortLines scene 
 text_is_scene scene fits short =
     let small : IsSmall scene.head = record { clients = fits.head.0.1; osts = fits.head.1.1 } in
     let neat : All Neat (scene_words scene) =
-    All-append Neat (head_words scene.head) (map line_words scene.lines) (head_neat scene.head fits.head) (said_neat scene.head scene.lines small fits.lines_fit short) in
+    All-append Neat (head_words scene.head) (map line_words scene.lines) (head_neat scene.head fits.head)
+    (said_neat scene.head scene.lines small fits.lines_fit short) in
     let split = lines_back (scene_words scene) neat in
     let spells : Spells (map words (scene_words scene) ++ [] ∷ []) (settings_of scene.head) scene.lines = record {
       plain = all_plain (scene_words scene) neat;
@@ -245,5 +252,8 @@ text_is_scene scene fits short =
       rest = map line_words scene.lines;
       parts = sayings_back (scene_words scene) neat;
       lines_are = lines_are scene.head scene.lines fits.lines_fit;
-    } in
-    (settings_of scene.head, subst (λ (ls : List (List ℕ)). Spells ls (settings_of scene.head) scene.lines) (sym split) spells, head_back scene.head)
+    } in (
+      settings_of scene.head,
+      subst (λ (ls : List (List ℕ)). Spells ls (settings_of scene.head) scene.lines) (sym split) spells,
+      head_back scene.head,
+    )

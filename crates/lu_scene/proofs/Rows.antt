@@ -34,7 +34,12 @@ no_client = refl
 
 -- a head, a comment and two lines
 two_lines : lines_after 1 nothing (lines_of (codes "clients 2" ++ 10 ∷ codes "#x" ++ 10 ∷ codes " tick  c1" ++ 10 ∷ codes "run 3"))
-    ≡ Ok (record { head = record default_head { clients = 2 }; given = headers.Clients ∷ []; lines = lines.Tick (Client 1) ∷ lines.RunSome 3 ∷ [] })
+    ≡ Ok (record {
+      head = record default_head { clients = 2 };
+      given = headers.Clients ∷ [];
+      lines = lines.Tick (Client 1) ∷ lines.RunSome 3
+          ∷ [];
+    })
 unfolding lines_after line_after number_of digits
 two_lines = refl
 

@@ -29,23 +29,27 @@ same_progress p q e = cc
 not_wrong : {A : Type 0} (p : Progress) (e : SceneFault) → fine p ≡ Err e → A
 not_wrong p e is = absurd (cc is)
 
-scene_again : (text : List ℕ) (scene : Scene) (is : IsScene text scene) → lines_after 1 nothing (lines_of text) ≡ Ok (progress_of is.0 scene.lines)
+scene_again : (text : List ℕ) (scene : Scene) (is : IsScene text scene) → lines_after 1 nothing (lines_of text)
+    ≡ Ok (progress_of is.0 scene.lines)
 scene_again text scene is = all_again (lines_of text) is.0 scene.lines is.1
 
 -- what is read is the scenario
-pub same_scene : (text : List ℕ) (p : Progress) (scene : Scene) → lines_after 1 nothing (lines_of text) ≡ Ok p → IsScene text scene → scene_of p ≡ scene
+pub same_scene : (text : List ℕ) (p : Progress) (scene : Scene) → lines_after 1 nothing (lines_of text) ≡ Ok p → IsScene text scene
+    → scene_of p ≡ scene
 same_scene text p scene e is =
     let same = same_progress p (progress_of is.0 scene.lines) (sym e ∙ scene_again text scene is) in
     ap scene_of same ∙ ap (λ h. record { head = h; lines = scene.lines }) (sym is.2)
 
 -- where it isn't read, memory ran out
-pub only_memory : (text : List ℕ) (e : SceneFault) (scene : Scene) → Stops e (lines_after 1 nothing (lines_of text)) → IsScene text scene → e ≡ outcomes.Memory
+pub only_memory : (text : List ℕ) (e : SceneFault) (scene : Scene) → Stops e (lines_after 1 nothing (lines_of text)) → IsScene text scene
+    → e ≡ outcomes.Memory
 only_memory text outcomes.Memory scene stops is = refl
 only_memory text (outcomes.Bad number fault) scene stops is =
     not_wrong (progress_of is.0 scene.lines) (outcomes.Bad number fault) (sym (scene_again text scene is) ∙ stops)
 
 -- the fault is that of the first bad line
-pub was_fault : (text : List ℕ) (e : SceneFault) (number : ℕ) (fault : Fault) → Stops e (lines_after 1 nothing (lines_of text)) → e ≡ outcomes.Bad number fault
+pub was_fault : (text : List ℕ) (e : SceneFault) (number : ℕ) (fault : Fault) → Stops e (lines_after 1 nothing (lines_of text)) → e
+    ≡ outcomes.Bad number fault
     → IsFirstFault (lines_of text) number fault
 was_fault text outcomes.Memory number fault stops is = absurd (cc is)
 was_fault text (outcomes.Bad n f) number fault stops is =

@@ -1,5 +1,6 @@
 -- A printed text is split into the words that were printed.
-use Rattle.std.proofs.Common.{◌≡◌, ◌≢◌, ℕ, ◌<◌, ◌≤◌, ◌==◌, Bool, true, false, not, cond, ◌&&◌, List, [], ◌∷◌, ◌++◌, length, map, refl, ap, ◌∙◌, arith}
+use Rattle.std.proofs.Common.{◌≡◌, ◌≢◌, ℕ, ◌<◌, ◌≤◌, ◌==◌, Bool, true, false, not, cond, ◌&&◌, List, [], ◌∷◌, ◌++◌, length, map, refl, ap}
+use Rattle.std.proofs.Common.{◌∙◌, arith}
 use Rattle.std.specs.Prelude.{nat_le, nat_lt, filter, All}
 use Rattle.std.specs.List.{list_all, slice_split, AllPass}
 use Rattle.std.proofs.lemmas.Bool.{ltb-true, leb-true, le-leb, ne_eqb, and_parts, and_from}
@@ -25,7 +26,8 @@ shown_word : (word : List ℕ) → is_word word ≡ true → shown word ≡ true
 shown_word word is = (and_parts (nat_lt 0 (length word)) (shown word) is).1
 
 -- words are what stands between the spaces
-split_words : (word : List ℕ) (more : List (List ℕ)) → is_word word ≡ true → are_words more ≡ true → slice_split (λ b. b == 32) (words (word ∷ more)) ≡ word ∷ more
+split_words : (word : List ℕ) (more : List (List ℕ)) → is_word word ≡ true → are_words more ≡ true
+    → slice_split (λ b. b == 32) (words (word ∷ more)) ≡ word ∷ more
 split_words word [] one are = slice_split_none (λ b. b == 32) word (without 32 (omega arith) word (shown_word word one))
 split_words word (next ∷ more) one are =
     let parts = and_parts (is_word next) (are_words more) are in
@@ -38,7 +40,8 @@ kept [] are = refl
 kept (word ∷ line) are =
     let parts = and_parts (is_word word) (are_words line) are in
     let some = ltb-true 0 (length word) (and_parts (nat_lt 0 (length word)) (shown word) parts.0).0 in
-    ap (λ (b : Bool). cond (not b) (word ∷ filter (λ w. not (length w == 0)) line) (filter (λ w. not (length w == 0)) line)) (ne_eqb (length word) 0 (λ e. omega (arith, some, e)))
+    ap (λ (b : Bool). cond (not b) (word ∷ filter (λ w. not (length w == 0)) line) (filter (λ w. not (length w == 0)) line))
+    (ne_eqb (length word) 0 (λ e. omega (arith, some, e)))
     ∙ ap (λ (ws : List (List ℕ)). word ∷ ws) (kept line parts.1)
 
 -- words that a line may have
@@ -95,11 +98,13 @@ neat_plain line neat = and_from _ _ (le-leb (length (words line)) 2000 neat.shor
 pub all_plain : (lines : List (List (List ℕ))) → All Neat lines → AllPass is_plain (map words lines ++ [] ∷ [])
 all_plain [] neat = All-cons (λ l. is_plain l ≡ true) [] [] refl (All-nil (λ l. is_plain l ≡ true))
 all_plain (line ∷ more) neat =
-    All-cons (λ l. is_plain l ≡ true) (words line) (map words more ++ [] ∷ []) (neat_plain line (All-head Neat line more neat)) (all_plain more (All-tail Neat line more neat))
+    All-cons (λ l. is_plain l ≡ true) (words line) (map words more ++ [] ∷ []) (neat_plain line (All-head Neat line more neat))
+    (all_plain more (All-tail Neat line more neat))
 
 neat_says : (line : List (List ℕ)) → Neat line → says (words line) ≡ true
 neat_says line neat =
-    and_from _ _ (ap not neat.plain_start) (ap (λ (ws : List (List ℕ)). not (length ws == 0)) (words_back line neat.some neat.are) ∙ ap not (filled line neat.some))
+    and_from _ _ (ap not neat.plain_start) (ap (λ (ws : List (List ℕ)). not (length ws == 0)) (words_back line neat.some neat.are)
+    ∙ ap not (filled line neat.some))
   where
     filled : (ws : List (List ℕ)) → ws ≢ [] → (length ws == 0) ≡ false
     filled [] some = absurd (some refl)

@@ -1,5 +1,6 @@
 -- The language of scenarios: which texts are scenarios, and of what.
-use Rattle.std.specs.Prelude.{◌≡◌, ℕ, ◌+◌, ◌^◌, ◌<◌, ◌≤◌, ◌==◌, ◌&&◌, not, Bool, List, [], ◌∷◌, ◌++◌, length, map, filter, fold, count_by, decimal, Option, Some, None, Err, ℤ, pos, negsuc, IsTrue, All}
+use Rattle.std.specs.Prelude.{◌≡◌, ℕ, ◌+◌, ◌^◌, ◌<◌, ◌≤◌, ◌==◌, ◌&&◌, not, Bool, List, [], ◌∷◌, ◌++◌, length, map, filter, fold, count_by}
+use Rattle.std.specs.Prelude.{decimal, Option, Some, None, Err, ℤ, pos, negsuc, IsTrue, All}
 use Rattle.std.specs.List.{AllPass}
 use Rattle.std.specs.Str.Parse.{digits_value}
 use Rattle.hex.specs.Hex.{IsBytes}
@@ -20,7 +21,8 @@ use Rattle.lu_scene.specs.declared.words.Verb.TheVariants as verbs
 use Rattle.lu_scene.specs.declared.words.CallName.TheVariants as names
 use Rattle.lu_scene.specs.Words.{verb_text, name_text}
 use Rattle.lu_scene.specs.Fields.{is_octal}
-use Rattle.lu_scene.specs.Lines.{lines_of, words_of, is_plain, is_comment, least_of, most_of, default_head, with_number, place_of, line_after}
+use Rattle.lu_scene.specs.Lines.{lines_of, words_of, is_plain, is_comment, least_of, most_of, default_head, with_number, place_of}
+use Rattle.lu_scene.specs.Lines.{line_after}
 use Rattle.lu_trace.specs.Words.{words}
 use Rattle.lu_trace.specs.Calls.{call_words}
 use Rattle.lu_scene.specs.Print.{header_words, slot_text, line_words}
@@ -167,9 +169,12 @@ pub record IsFirstFault (text : List (List ℕ)) (number : ℕ) (fault : Fault) 
 -- a scenario keeps the limits
 abbrev pub HeadFits : Head → Type 0
 HeadFits head =
-    SettingFits (record { header = headers.Clients; number = head.clients }) × SettingFits (record { header = headers.Osts; number = head.osts })
-    × SettingFits (record { header = headers.Expire; number = head.expire }) × SettingFits (record { header = headers.Dirty; number = head.dirty })
-    × SettingFits (record { header = headers.Unused; number = head.unused }) × SettingFits (record { header = headers.Rounds; number = head.rounds })
+    SettingFits (record { header = headers.Clients; number = head.clients })
+    × SettingFits (record { header = headers.Osts; number = head.osts })
+    × SettingFits (record { header = headers.Expire; number = head.expire })
+    × SettingFits (record { header = headers.Dirty; number = head.dirty })
+    × SettingFits (record { header = headers.Unused; number = head.unused })
+    × SettingFits (record { header = headers.Rounds; number = head.rounds })
     × SettingFits (record { header = headers.Flight; number = head.flight })
 
 pub record SceneFits (scene : Scene) : Type 0 where

@@ -1,5 +1,6 @@
 -- What a line of a scenario says, or its first fault, and the lines of a text one after the other.
-use Rattle.std.specs.Prelude.{ℕ, ◌+◌, ◌==◌, ◌&&◌, ◌||◌, not, nat_le, Bool, if◌then◌else◌, List, [], ◌∷◌, ◌++◌, length, slice_index, filter, Option, Some, None, Result, Ok, Err}
+use Rattle.std.specs.Prelude.{ℕ, ◌+◌, ◌==◌, ◌&&◌, ◌||◌, not, nat_le, Bool, if◌then◌else◌, List, [], ◌∷◌, ◌++◌, length, slice_index, filter}
+use Rattle.std.specs.Prelude.{Option, Some, None, Result, Ok, Err}
 use Rattle.std.specs.List.{list_all, list_any, slice_split}
 use Rattle.lu_base.specs.declared.ids.TargetId.{TargetId}
 use Rattle.lu_scene.specs.declared.faults.Fault.{Fault}

@@ -1,7 +1,8 @@
 -- Storms: scenarios that are made from a number. Four clients call at random on eight directories and two files over two
 -- object storage targets, and commits, crashes and boots come between (this project's profile; the words are those of the
 -- generator SplitMix64).
-use Rattle.std.specs.Prelude.{ℕ, zero, suc, ◌+◌, ◌*◌, ◌/◌, ◌%◌, ◌==◌, nat_le, nat_lt, if◌then◌else◌, Bool, List, [], ◌∷◌, ◌++◌, replicate, Option, Some, None, ℤ, pos}
+use Rattle.std.specs.Prelude.{ℕ, zero, suc, ◌+◌, ◌*◌, ◌/◌, ◌%◌, ◌==◌, nat_le, nat_lt, if◌then◌else◌, Bool, List, [], ◌∷◌, ◌++◌, replicate}
+use Rattle.std.specs.Prelude.{Option, Some, None, ℤ, pos}
 use Rattle.std.specs.List.{flat_map}
 use Rattle.rand_xoshiro.specs.SplitMix64.{mix_u64}
 use Rattle.lu_base.specs.declared.ids.Node.TheVariants.{Target}

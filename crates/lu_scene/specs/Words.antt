@@ -41,7 +41,8 @@ verb_text verbs.Die = codes "die"
 
 -- what lines do
 abbrev pub all_verbs : List Verb
-all_verbs = verbs.Call ∷ verbs.Run ∷ verbs.Deliver ∷ verbs.Lose ∷ verbs.Tick ∷ verbs.Commit ∷ verbs.Crash ∷ verbs.Boot ∷ verbs.Close ∷ verbs.Die ∷ []
+all_verbs = verbs.Call ∷ verbs.Run ∷ verbs.Deliver ∷ verbs.Lose ∷ verbs.Tick ∷ verbs.Commit ∷ verbs.Crash ∷ verbs.Boot ∷ verbs.Close
+    ∷ verbs.Die ∷ []
 
 -- what a line that begins with the word does
 abbrev pub verb_of : List ℕ → Option Verb
@@ -70,7 +71,8 @@ name_text names.Glimpse = codes "glimpse"
 
 -- the calls
 abbrev pub all_calls : List CallName
-all_calls = names.Lookup ∷ names.Stat ∷ names.List ∷ names.Layout ∷ names.Mkdir ∷ names.Create ∷ names.Link ∷ names.Unlink ∷ names.Rmdir ∷ names.Rename ∷ names.Chmod ∷ names.Open ∷ names.Close ∷ names.Read ∷ names.Write ∷ names.Cut ∷ names.Flush ∷ names.Glimpse ∷ []
+all_calls = names.Lookup ∷ names.Stat ∷ names.List ∷ names.Layout ∷ names.Mkdir ∷ names.Create ∷ names.Link ∷ names.Unlink ∷ names.Rmdir
+    ∷ names.Rename ∷ names.Chmod ∷ names.Open ∷ names.Close ∷ names.Read ∷ names.Write ∷ names.Cut ∷ names.Flush ∷ names.Glimpse ∷ []
 
 -- the call that the word names
 abbrev pub call_name_of : List ℕ → Option CallName

@@ -5,9 +5,9 @@ ghost use Rattle.lu_scene.specs.Gives.{Gives};
 ghost use Rattle.lu_scene.specs.Calls.{one_path, two_paths, handle_at, one_handle, striped_of, create_of, chmod_of, open_of, read_of, write_of, cut_of, call_of};
 
 use super::faults::{Fault, LineError};
-use super::fields::{MOST_BYTES, count_at, data_at, mode_at, number_at, number_in, path_at};
+use super::fields::{count_at, data_at, mode_at, number_at, number_in, path_at};
 use super::words::CallName;
-use lu_base::Path;
+use lu_base::{MOST_CALL_BYTES, MOST_POSITION, Path};
 use lu_msg::Call;
 use std::alloc::Global;
 
@@ -16,9 +16,6 @@ const MOST_HANDLE: u64 = 15;
 
 /// The greatest stripe size that a call asks for, in bytes.
 const MOST_STRIPE_SIZE: u64 = 1 << 32;
-
-/// The greatest position in a file, in bytes.
-const MOST_POSITION: u64 = 1 << 40;
 
 /// One path.
 fn one_path(alloc: Global, words: &[&[u8]]) -> Result<Path, LineError>
@@ -128,7 +125,7 @@ fn read_of(words: &[&[u8]]) -> Result<Call, LineError>
         [word, second, third] => {
             let handle = handle_at(word)?;
             let offset = number_at(second)?;
-            let length = number_in(third, 1, MOST_BYTES as u64)?;
+            let length = number_in(third, 1, MOST_CALL_BYTES)?;
             if offset <= MOST_POSITION && offset + length <= MOST_POSITION {
                 Ok(Call::Read {
                     handle,

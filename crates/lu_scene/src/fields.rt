@@ -7,14 +7,11 @@ ghost use Rattle.lu_scene.specs.Gives.{Gives};
 ghost use Rattle.lu_scene.specs.Fields.{number_of, number_in, number_at, is_octal, mode_of, mode_at, count_at, number_behind, client_at, target_at, node_at, slot_of, slot_at, path_at, or_fault, data_of, data_at};
 
 use super::faults::{Fault, LineError};
-use lu_base::{Bytes, Node, Path, TargetId, read_bytes, read_number, read_path};
+use lu_base::{Bytes, MOST_CALL_BYTES, Node, Path, TargetId, read_bytes, read_number, read_path};
 use std::alloc::{AllocError, Global};
 
 /// The greatest number of a slot.
 const MOST_SLOT: u64 = 3;
-
-/// The most bytes of data that a call writes or asks for.
-pub const MOST_BYTES: usize = 65536;
 
 /// The greatest number of stripes that a call asks for.
 const MOST_STRIPES: u64 = 1000;
@@ -212,7 +209,7 @@ pub fn data_at(alloc: Global, word: &[u8]) -> Result<Bytes, LineError>
     ensures data { Gives result (data_at word.now) }
 {
     let bytes = any_data_at(alloc, word)?;
-    if bytes.len() <= MOST_BYTES {
+    if bytes.len() as u64 <= MOST_CALL_BYTES {
         Ok(bytes)
     } else {
         Err(LineError::Bad(Fault::Data))

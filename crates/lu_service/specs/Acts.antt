@@ -9,8 +9,8 @@ use Rattle.lu_msg.specs.declared.answers.Answer.TheVariants.{Refused}
 use Rattle.lu_msg.specs.declared.answers.Errno.{Errno}
 use Rattle.lu_part.specs.declared.parts.Part.{Part}
 use Rattle.lu_part.specs.declared.parts.Want.{Want}
-use Rattle.lu_machine.specs.Footprint.{Operation, asks_life, Every}
-use Rattle.lu_machine.specs.Objects.{page_extent}
+use Rattle.lu_spec_machine.specs.Footprint.{Operation, asks_life, Every}
+use Rattle.lu_spec_machine.specs.Objects.{page_extent}
 use Rattle.lu_service.specs.declared.services.Kind.{Kind}
 use Rattle.lu_service.specs.Contents.{Contents, IsSound, Same, SameBytes}
 use Rattle.lu_service.specs.Takes.{Performs}

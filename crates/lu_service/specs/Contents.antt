@@ -9,11 +9,11 @@ use Rattle.lu_base.specs.declared.locks.Resource.{Resource}
 use Rattle.lu_msg.specs.declared.operations.Op.{Op}
 use Rattle.lu_part.specs.declared.parts.Part.{Part}
 use Rattle.lu_part.specs.declared.parts.Part.TheVariants.{Bytes}
-use Rattle.lu_machine.specs.Tree.{Tree}
-use Rattle.lu_machine.specs.Footprint as footprint
-use Rattle.lu_machine.specs.Footprint.{Operation, Every}
-use Rattle.lu_machine.specs.Objects.{Object, object_size}
-use Rattle.lu_machine.specs.Places.{RisingFrom, found_at, is_in}
+use Rattle.lu_spec_machine.specs.Tree.{Tree}
+use Rattle.lu_spec_machine.specs.Footprint as footprint
+use Rattle.lu_spec_machine.specs.Footprint.{Operation, Every}
+use Rattle.lu_spec_machine.specs.Objects.{Object, object_size}
+use Rattle.lu_spec_machine.specs.Places.{RisingFrom, found_at, is_in}
 
 pub record Contents : Type 0 where
   pub osts : ℕ

@@ -16,8 +16,8 @@ use Rattle.lu_lock.specs.Modes.{serves}
 use Rattle.lu_lock.specs.Overlap.{extents_meet}
 use Rattle.lu_msg.specs.declared.operations.Op.{Op}
 use Rattle.lu_msg.specs.declared.operations.Op.TheVariants as op
-use Rattle.lu_machine.specs.Objects.{page_extent}
-use Rattle.lu_machine.specs.Tree.{same_life}
+use Rattle.lu_spec_machine.specs.Objects.{page_extent}
+use Rattle.lu_spec_machine.specs.Tree.{same_life}
 use Rattle.lu_service.specs.Contents.{same_resource}
 
 -- locks on objects have ranges; one on bits stands as a range of the offset 0

@@ -2,9 +2,9 @@
 -- and its last open.
 use Rattle.std.specs.Prelude.{ℕ, [], if◌then◌else◌}
 use Rattle.lu_base.specs.declared.ids.Who.{Who}
-use Rattle.lu_machine.specs.Footprint as footprint
-use Rattle.lu_machine.specs.Footprint.{Operation, empty, forget}
-use Rattle.lu_machine.specs.Trim.{trim}
+use Rattle.lu_spec_machine.specs.Footprint as footprint
+use Rattle.lu_spec_machine.specs.Footprint.{Operation, empty, forget}
+use Rattle.lu_spec_machine.specs.Trim.{trim}
 use Rattle.lu_service.specs.Acts.{Acts}
 use Rattle.lu_service.specs.Contents.{Contents}
 

@@ -7,9 +7,9 @@ use Rattle.lu_msg.specs.declared.answers.Answer.TheVariants as told
 use Rattle.lu_msg.specs.declared.answers.Errno.TheVariants.{EBADF}
 use Rattle.lu_msg.specs.declared.operations.Op.{Op}
 use Rattle.lu_msg.specs.declared.operations.Op.TheVariants as op
-use Rattle.lu_machine.specs.Footprint.{Operation, empty}
-use Rattle.lu_machine.specs.Objects.{Object, object_after, object_size, object_touches, object_writes}
-use Rattle.lu_machine.specs.Objects.{content, page_extent}
+use Rattle.lu_spec_machine.specs.Footprint.{Operation, empty}
+use Rattle.lu_spec_machine.specs.Objects.{Object, object_after, object_size, object_touches, object_writes}
+use Rattle.lu_spec_machine.specs.Objects.{content, page_extent}
 use Rattle.lu_service.specs.Acts.{Acts}
 use Rattle.lu_service.specs.Contents.{Contents, object_in, with_object}
 

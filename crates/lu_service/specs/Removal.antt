@@ -5,10 +5,10 @@ use Rattle.lu_base.specs.declared.locks.Extent.{Extent}
 use Rattle.lu_base.specs.declared.locks.Resource.{Resource}
 use Rattle.lu_part.specs.declared.parts.Part.{Part}
 use Rattle.lu_part.specs.declared.parts.Part.TheVariants.{Bytes}
-use Rattle.lu_machine.specs.Footprint.{Operation, Every, Apart}
-use Rattle.lu_machine.specs.Removal.{Item, pick}
-use Rattle.lu_machine.specs.Removal.{Acts as Performed, Forgets}
-use Rattle.lu_machine.specs.Trim.{Rising}
+use Rattle.lu_spec_machine.specs.Footprint.{Operation, Every, Apart}
+use Rattle.lu_spec_machine.specs.Removal.{Item, pick}
+use Rattle.lu_spec_machine.specs.Removal.{Acts as Performed, Forgets}
+use Rattle.lu_spec_machine.specs.Trim.{Rising}
 use Rattle.lu_service.specs.declared.services.Kind.{Kind}
 use Rattle.lu_service.specs.Acts.{Acts, Alike}
 use Rattle.lu_service.specs.Contents.{Contents}

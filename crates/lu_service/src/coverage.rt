@@ -2,7 +2,7 @@
 
 ghost use Rattle.std.specs.Prelude.{◌≡◌, ◌+◌, ◌*◌, ◌≤◌, length};
 ghost use Rattle.std.specs.Option.{option_copied};
-ghost use Rattle.lu_machine.specs.Objects.{page_size, page_extent};
+ghost use Rattle.lu_spec_machine.specs.Objects.{page_size, page_extent};
 ghost use Rattle.lu_service.specs.Contents.{most_bytes, same_resource};
 ghost use Rattle.lu_service.specs.Takes.{IsOnObject};
 ghost use Rattle.lu_service.specs.Covered.{covered, covers, covers_read, covers_write, extent_of, is_named, lies_in, put_extent, cut_extent};

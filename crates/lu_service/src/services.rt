@@ -2,7 +2,7 @@
 
 ghost use Rattle.std.specs.Prelude.{◌≡◌, ◌<◌, ◌≤◌, ◌/◌, true, IfOk, OnOk, OnErr};
 ghost use Rattle.lu_base.specs.declared.ids.Txn.{Txn as SpecTxn};
-ghost use Rattle.lu_machine.specs.Objects.{page_size};
+ghost use Rattle.lu_spec_machine.specs.Objects.{page_size};
 
 use lu_base::{Bytes, Extent, Memory, Resource, Txn, Who};
 use lu_msg::{Answer, Op};

@@ -1,5 +1,6 @@
 -- What `clap` makes of the words of a form.
-use Rattle.std.proofs.Common.{◌≡◌, ℕ, zero, suc, ◌+◌, ◌-◌, ◌<◌, ◌^◌, true, codes, List, [], ◌∷◌, Some, None, refl, sym, ap, subst, arith, decimal, length}
+use Rattle.std.proofs.Common.{◌≡◌, ℕ, zero, suc, ◌+◌, ◌-◌, ◌<◌, ◌^◌, true, codes, List, [], ◌∷◌, Some, None, refl, sym, ap, subst, arith}
+use Rattle.std.proofs.Common.{decimal, length}
 use Rattle.std.proofs.lemmas.Fmt.{decimal_nonempty, digits_decimal}
 use Rattle.std.proofs.lemmas.Str.Parse.{numerals_by_value}
 use Rattle.std.specs.Int.{IsInRange}
@@ -84,7 +85,12 @@ AreDigits (c ∷ cs) = IsInRange 48 57 c × AreDigits cs
 
 are_digits : (n : ℕ) → n < 2 ^ 64 → AreDigits (decimal n)
 are_digits n small =
-    digits_decimal (numerals_by_value AreDigits (record { empty = tt; parts = λ c cs are. (are.0, are.1); more = λ c cs one are. (one, are) })) n small
+    digits_decimal (numerals_by_value AreDigits (record {
+      empty = tt;
+      parts = λ c cs are. (are.0, are.1);
+      more =
+          λ c cs one are. (one, are);
+    })) n small
 
 begins : (ds : List ℕ) → AreDigits ds → 0 < length ds → (k : ℕ) × (rest : List ℕ) × (k < 10) × (ds ≡ (48 + k) ∷ rest)
 begins [] are some = absurd (omega (arith, some))

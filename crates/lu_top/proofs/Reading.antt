@@ -5,9 +5,9 @@ use Rattle.lu_scene.specs.declared.faults.Fault.{Fault}
 use Rattle.lu_scene.specs.declared.faults.SceneFault.{SceneFault}
 use Rattle.lu_scene.specs.declared.faults.SceneFault.TheVariants as faults
 use Rattle.lu_scene.specs.declared.scene.Scene.{Scene}
-use Rattle.lu_player.specs.Limits.{KeepsLimits}
-use Rattle.lu_limits.proofs.Read as read
-use Rattle.lu_limits.proofs.Storms as storms
+use Rattle.lu_core.specs.Limits.{KeepsLimits}
+use Rattle.lu_proof_limits.proofs.Read as read
+use Rattle.lu_proof_limits.proofs.Storms as storms
 use Rattle.lu_top.specs.declared.forms.Performance.{Performance}
 use Rattle.lu_top.specs.declared.forms.Performance.TheVariants.{Play, Storm}
 use Rattle.lu_top.specs.declared.scenes.Refusal.{Refusal}
@@ -69,6 +69,7 @@ not_bad r line fault scene is there = not_wrong r scene refusal.Memory (refusal.
 -- ---- limits
 
 -- the scenario of a performance keeps them
-pub limits_of : (performance : Performance) (old new : Option (List ℕ)) (scene : Scene) → IsSceneBy performance old new scene → KeepsLimits scene
+pub limits_of : (performance : Performance) (old new : Option (List ℕ)) (scene : Scene) → IsSceneBy performance old new scene
+    → KeepsLimits scene
 limits_of Play old new scene is = read.keeps_limits is.0 scene is.3
 limits_of (Storm seed) old new scene is = subst KeepsLimits (sym is.1) (storms.keeps_limits seed)

@@ -46,6 +46,7 @@ pub found_is : (word : List ℕ) (number : Option (List ℕ)) (found : Option Fo
     → IfSome found (Says (words_with word number)) → IfNone found (SaysNothing (words_with word number))
     → IsForm form → some_of word ≡ some_of (word_of form) → number ≡ number_of form → found ≡ Some form
 found_is word number (Some other) form some none is word_is number_is =
-    ap (λ (f : Form). Some f) (one_form (words_with word number) other form some (is, ap₂ words_with (same_some word (word_of form) word_is) number_is))
+    ap (λ (f : Form). Some f) (one_form (words_with word number) other form some
+    (is, ap₂ words_with (same_some word (word_of form) word_is) number_is))
 found_is word number None form some none is word_is number_is =
     absurd (none form (is, ap₂ words_with (same_some word (word_of form) word_is) number_is))

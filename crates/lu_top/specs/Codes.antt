@@ -1,7 +1,8 @@
 -- The exit codes.
 use Rattle.std.specs.Prelude.{ℕ}
 use Rattle.lu_top.specs.declared.status.Status.{Status}
-use Rattle.lu_top.specs.declared.status.Status.TheVariants.{Done, Unlawful, Usage, Scene, Trace, TooLong, ReadFault, WriteFault, DiskFault, Memory, Unforeseen}
+use Rattle.lu_top.specs.declared.status.Status.TheVariants.{Done, Unlawful, Usage, Scene, Trace, TooLong, ReadFault, WriteFault, DiskFault}
+use Rattle.lu_top.specs.declared.status.Status.TheVariants.{Memory, Unforeseen}
 
 -- the exit code of each status
 abbrev pub code_of : Status → ℕ

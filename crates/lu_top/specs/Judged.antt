@@ -6,9 +6,9 @@ use Rattle.lu_trace.specs.declared.traces.Trace.{Trace}
 use Rattle.lu_trace.specs.declared.traces.End.{End}
 use Rattle.lu_trace.specs.Traces.{trace_text}
 use Rattle.lu_trace.specs.WellFormed.{IsWellFormed}
-use Rattle.lu_verdict.specs.declared.verdicts.Verdict.{Verdict}
-use Rattle.lu_verdict.specs.declared.verdicts.Verdict.TheVariants.{Lawful, Broken}
-use Rattle.lu_verdict.specs.Verdicts.{IsVerdict, verdict_text}
+use Rattle.lu_judge.specs.declared.verdicts.Verdict.{Verdict}
+use Rattle.lu_judge.specs.declared.verdicts.Verdict.TheVariants.{Lawful, Broken}
+use Rattle.lu_judge.specs.Verdicts.{IsVerdict, verdict_text}
 use Rattle.lu_top.specs.declared.forms.Form.TheVariants.{Judge}
 use Rattle.lu_top.specs.Forms.{Says}
 use Rattle.lu_top.specs.Asked.{most_trace_bytes, WasRead}

@@ -4,4 +4,4 @@ pub mod Forms
 pub mod Asked
 pub mod Outcomes
 pub mod Judged
-pub use Rattle.lu_player.specs.Played
+pub use Rattle.lu_core.specs.Played

@@ -8,11 +8,11 @@ use Rattle.lu_scene.specs.Grammar.{IsScene}
 use Rattle.lu_scene.specs.Storms.{storm_of}
 use Rattle.lu_scene.specs.declared.scene.Scene.{Scene}
 use Rattle.lu_trace.specs.Traces.{trace_text}
-use Rattle.lu_summary.specs.Summaries.{summary_text}
-use Rattle.lu_player.specs.Lawful.{IsLawful}
-use Rattle.lu_player.specs.Nodes.{DiskState}
-use Rattle.lu_player.specs.declared.playing.Played.{Played}
-use Rattle.lu_player.specs.Played.{IsPlayed, faults_at}
+use Rattle.lu_run_summary.specs.Summaries.{summary_text}
+use Rattle.lu_core.specs.Lawful.{IsLawful}
+use Rattle.lu_core.specs.Nodes.{DiskState}
+use Rattle.lu_core.specs.declared.playing.Played.{Played}
+use Rattle.lu_core.specs.Played.{IsPlayed, faults_at}
 use Rattle.lu_top.specs.Refusals.{usage_text, read_fault_text, too_long_text, bad_text, bad_trace_text, unforeseen_text}
 use Rattle.lu_top.specs.declared.forms.Performance.{Performance}
 use Rattle.lu_top.specs.declared.forms.Performance.TheVariants.{Play, Storm}
@@ -107,9 +107,12 @@ pub record WroteStorm (old new : Option (List ℕ)) (held : List DiskState) (see
 
 -- what writing of a run comes to
 abbrev pub IsWritten : Performance → Played → Option (List ℕ) → Option (List ℕ) → ℕ → ℕ → Status → Type 0
-IsWritten performance played old new before now status.Done = (played.failed ≡ None) × Appends old new (text_by performance played) × (now ≡ before)
-IsWritten performance played old new before now status.WriteFault = (played.failed ≡ None) × WrotePrefix old new (text_by performance played) × Rose before now
-IsWritten performance played old new before now (status.DiskFault t) = (played.failed ≡ Some t) × WasTold old new before now (text_by performance played)
+IsWritten performance played old new before now status.Done = (played.failed ≡ None) × Appends old new (text_by performance played)
+    × (now ≡ before)
+IsWritten performance played old new before now status.WriteFault = (played.failed ≡ None)
+    × WrotePrefix old new (text_by performance played) × Rose before now
+IsWritten performance played old new before now (status.DiskFault t) = (played.failed ≡ Some t)
+    × WasTold old new before now (text_by performance played)
 IsWritten performance played old new before now status.Memory = Unit {0}
 IsWritten performance played old new before now _ = ⊥
 

@@ -4,8 +4,8 @@ use Rattle.lu_scene.specs.declared.faults.Fault.{Fault}
 use Rattle.lu_base.specs.declared.faults.ReadError.TheVariants as errors
 use Rattle.lu_base.specs.Errors.{read_error_text}
 use Rattle.lu_scene.specs.Faults.{bad_line_text}
-use Rattle.lu_reader.specs.declared.faults.ReadFault.TheVariants as unread
-use Rattle.lu_reader.specs.Faults.{read_fault_text as unread_text}
+use Rattle.lu_judge_reader.specs.declared.faults.ReadFault.TheVariants as unread
+use Rattle.lu_judge_reader.specs.Faults.{read_fault_text as unread_text}
 
 -- the line that names the forms of a command line
 abbrev pub usage_text : List ℕ

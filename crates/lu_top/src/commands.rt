@@ -4,10 +4,10 @@ ghost use Rattle.std.specs.Prelude.{◌≡◌, ◌⊎◌, ℕ, List, Some, None}
 ghost use Rattle.std.specs.Io.KnownBytes.{Appends};
 ghost use Rattle.lu_base.specs.Faults.{WrotePrefix};
 ghost use Rattle.lu_base.specs.declared.ids.TargetId.{TargetId};
-ghost use Rattle.lu_player.specs.Played.{AreFresh, AreBack};
-ghost use Rattle.lu_verdict.specs.declared.laws.Law.{Law};
-ghost use Rattle.lu_verdict.specs.declared.verdicts.Verdict.{Verdict};
-ghost use Rattle.lu_verdict.specs.declared.verdicts.Verdict.TheVariants.{Lawful, Broken};
+ghost use Rattle.lu_core.specs.Played.{AreFresh, AreBack};
+ghost use Rattle.lu_judge.specs.declared.laws.Law.{Law};
+ghost use Rattle.lu_judge.specs.declared.verdicts.Verdict.{Verdict};
+ghost use Rattle.lu_judge.specs.declared.verdicts.Verdict.TheVariants.{Lawful, Broken};
 ghost use Rattle.lu_top.specs.Outcomes.{held_by, WasTold, Tells, WroteBy, OfAsked, HasRun, HasRefused};
 ghost use Rattle.lu_top.specs.Judged.{WroteVerdict};
 ghost use Rattle.lu_top.specs.Forms.{Says};

@@ -5,10 +5,10 @@ ghost use Rattle.std.specs.Io.KnownBytes.{Appends};
 ghost use Rattle.lu_base.specs.Faults.{Rose, CameMore, WrotePrefix};
 ghost use Rattle.lu_trace.specs.declared.traces.Trace.{Trace as TraceOf};
 ghost use Rattle.lu_trace.specs.WellFormed.{IsWellFormed};
-ghost use Rattle.lu_reader.specs.Reads.{IsFirstBad};
-ghost use Rattle.lu_verdict.specs.declared.laws.Law.{Law as LawOf};
-ghost use Rattle.lu_verdict.specs.declared.verdicts.Verdict.{Verdict as VerdictOf};
-ghost use Rattle.lu_verdict.specs.Verdicts.{IsVerdict};
+ghost use Rattle.lu_judge_reader.specs.Reads.{IsFirstBad};
+ghost use Rattle.lu_judge.specs.declared.laws.Law.{Law as LawOf};
+ghost use Rattle.lu_judge.specs.declared.verdicts.Verdict.{Verdict as VerdictOf};
+ghost use Rattle.lu_judge.specs.Verdicts.{IsVerdict};
 ghost use Rattle.lu_top.specs.Asked.{most_trace_bytes, WasRead, IsGiven};
 ghost use Rattle.lu_top.specs.Outcomes.{Tells};
 ghost use Rattle.lu_top.specs.Judged.{IsTextOf, IsNoTrace, verdict_line, WroteVerdictOf, IsTold, IsJudgedStatus, IsVerdictStatus, IsRefusedTrace, IsOfJudging};
@@ -16,13 +16,13 @@ ghost use Rattle.lu_top.specs.Judged.{IsTextOf, IsNoTrace, verdict_line, WroteVe
 use super::refusals::{tell, tell_bad_trace};
 use super::status::Status;
 use lu_base::{Bytes, Memory, ReadError, Sink, Source, put_number, read_all, write_all};
-use lu_reader::{ReadFault, read_trace};
+use lu_judge::{Law, Verdict, judge};
+use lu_judge_reader::{ReadFault, read_trace};
 use lu_trace::Trace;
-use lu_verdict::{Law, Verdict, judge};
 use std::alloc::Global;
 
 /// The most bytes that the text of a trace has.
-const MOST_BYTES: usize = 67108864;
+const MOST_TRACE_BYTES: usize = 67108864;
 
 /// Why there is no trace.
 #[derive(Clone, Copy, Debug)]
@@ -105,7 +105,7 @@ fn trace_of<S: Source>(alloc: Global, source: &mut S) -> Result<Trace, NoTrace>
         → IsGiven most_trace_bytes (S.left source.old) (S.faults source.old) (S.faults source.new) text
         → ((trace : TraceOf) → ¬ IsTextOf text trace) → IsNoTrace result }
 {
-    let text = match read_all(alloc, source, MOST_BYTES) {
+    let text = match read_all(alloc, source, MOST_TRACE_BYTES) {
         Ok(text) => text,
         Err(ReadError::ReadFault) => return Err(NoTrace::ReadFault),
         Err(ReadError::TooLong) => return Err(NoTrace::TooLong),

@@ -8,9 +8,9 @@ ghost use Rattle.lu_scene.specs.Lines.{lines_of};
 ghost use Rattle.lu_scene.specs.Grammar.{IsScene, IsFirstFault};
 ghost use Rattle.lu_scene.specs.declared.scene.Scene.{Scene as SceneOf};
 ghost use Rattle.lu_scene.specs.declared.faults.Fault.{Fault as FaultOf};
-ghost use Rattle.lu_player.specs.Limits.{KeepsLimits};
-ghost use Rattle.lu_player.specs.Quiet.{IsBareScene, AsksNoDisk};
-ghost use Rattle.lu_player.specs.Played.{AreFresh, AreBack, SomeRose};
+ghost use Rattle.lu_core.specs.Limits.{KeepsLimits};
+ghost use Rattle.lu_core.specs.Quiet.{IsBareScene, AsksNoDisk};
+ghost use Rattle.lu_core.specs.Played.{AreFresh, AreBack, SomeRose};
 ghost use Rattle.lu_top.specs.Asked.{most_scene_bytes, WasRead, IsGiven};
 ghost use Rattle.lu_top.specs.Outcomes.{held_by, text_by, WasTold, Tells, WroteOf, OfScene, HasFailed, WroteRun, WroteStorm, IsWritten, IsOutcome, HasRun, HasRefused, IsDone, IsRefused, IsPerformedStatus, IsOfPerformance};
 
@@ -19,10 +19,10 @@ use super::refusals::{tell, tell_bad};
 use super::scenes::{Refusal, scene_of};
 use super::status::Status;
 use lu_base::{Bytes, Memory, Sink, Source, write_all};
+use lu_core::{PlayFault, Played, play};
 use lu_disk::Disk;
-use lu_player::{PlayFault, Played, play};
+use lu_run_summary::summary;
 use lu_scene::Scene;
-use lu_summary::summary;
 use lu_trace::render;
 use std::alloc::Global;
 

@@ -15,7 +15,7 @@ use lu_scene::{Fault, Scene, SceneFault, read_scene, storm};
 use std::alloc::Global;
 
 /// The most bytes that a scenario has.
-const MOST_BYTES: usize = 1048576;
+const MOST_SCENE_BYTES: usize = 1048576;
 
 /// Why there is no scenario.
 #[derive(Clone, Copy, Debug)]
@@ -83,7 +83,7 @@ fn read_from<S: Source>(alloc: Global, source: &mut S) -> Result<Scene, Refusal>
         → IsGiven most_scene_bytes (S.left source.old) (S.faults source.old) (S.faults source.new) text
         → ((scene : SceneOf) → ¬ IsScene text scene) → IsRefusal result }
 {
-    let text = match read_all(alloc, source, MOST_BYTES) {
+    let text = match read_all(alloc, source, MOST_SCENE_BYTES) {
         Ok(text) => text,
         Err(ReadError::ReadFault) => return Err(Refusal::ReadFault),
         Err(ReadError::TooLong) => return Err(Refusal::TooLong),

@@ -4,8 +4,8 @@ ghost use Rattle.std.specs.Prelude.{◌≡◌};
 ghost use Rattle.lu_top.specs.Codes.{code_of};
 
 use lu_base::TargetId;
+use lu_judge::Law;
 use lu_scene::Fault;
-use lu_verdict::Law;
 
 /// How a run of the program ends, and what stands in the sink then.
 #[derive(Clone, Copy, Debug, PartialEq, Eq)]

@@ -1,5 +1,6 @@
 -- Texts with a byte between them, as a loop appends them.
-use Rattle.std.proofs.Common.{◌≡◌, ℕ, ◌+◌, ◌<◌, List, [], ◌∷◌, ◌++◌, length, take, get_or, refl, ap, sym, ◌∙◌, append_assoc, append-nil, add-one, map}
+use Rattle.std.proofs.Common.{◌≡◌, ℕ, ◌+◌, ◌<◌, List, [], ◌∷◌, ◌++◌, length, take, get_or, refl, ap, sym, ◌∙◌, append_assoc, append-nil}
+use Rattle.std.proofs.Common.{add-one, map}
 use Rattle.std.specs.List.{join_with_byte, flat_map}
 use Rattle.std.proofs.lemmas.Grind.{flat_map-append}
 use Rattle.std.proofs.Math.Seq.{take-suc}
@@ -35,10 +36,12 @@ pub append-next : (between : ℕ) (start first now pushed after text : List ℕ)
 append-next between start first now pushed after text texts i within so_far byte added is =
     append-more between start first now pushed after text (take i texts) so_far byte added
     ∙ ap (λ t. start ++ join_with_byte between (first ∷ (take i texts ++ t ∷ []))) is
-    ∙ ap (λ ts. start ++ join_with_byte between (first ∷ ts)) (sym (take-suc texts i text within) ∙ ap (λ k. take k texts) (sym (add-one i)))
+    ∙ ap (λ ts. start ++ join_with_byte between (first ∷ ts)) (sym (take-suc texts i text within)
+    ∙ ap (λ k. take k texts) (sym (add-one i)))
 
 -- the next of the items' texts
-pub append-next_item : {A : Type 0} (write : A → List ℕ) (between : ℕ) (start first now pushed after : List ℕ) (items : List A) (item : A) (i : ℕ)
+pub append-next_item : {A : Type 0} (write : A → List ℕ) (between : ℕ) (start first now pushed after : List ℕ) (items : List A) (item : A)
+    (i : ℕ)
     → i < length items
     → now ≡ start ++ join_with_byte between (first ∷ map write (take i items)) → pushed ≡ now ++ between ∷ [] → after ≡ pushed ++ write item
     → item ≡ get_or items i item
@@ -47,7 +50,8 @@ append-next_item write between start first now pushed after items item i within 
     append-more between start first now pushed after (write item) (map write (take i items)) so_far byte added
     ∙ ap (λ ts. start ++ join_with_byte between (first ∷ ts)) (sym (map-snoc write (take i items) item))
     ∙ ap (λ t. start ++ join_with_byte between (first ∷ map write (take i items ++ t ∷ []))) is
-    ∙ ap (λ ts. start ++ join_with_byte between (first ∷ map write ts)) (sym (take-suc items i item within) ∙ ap (λ k. take k items) (sym (add-one i)))
+    ∙ ap (λ ts. start ++ join_with_byte between (first ∷ map write ts))
+    (sym (take-suc items i item within) ∙ ap (λ k. take k items) (sym (add-one i)))
 
 -- the next of the items' texts, with nothing between them
 pub append-next_text : {A : Type 0} (write : A → List ℕ) (start now after : List ℕ) (items : List A) (item : A) (i : ℕ) → i < length items

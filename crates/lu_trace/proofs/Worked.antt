@@ -21,7 +21,8 @@ use Rattle.lu_base.specs.declared.locks.Resource.{Resource}
 use Rattle.lu_layout.specs.Raid0.{Raid0}
 use Rattle.lu_msg.specs.declared.answers.Answer.{Answer}
 use Rattle.lu_msg.specs.declared.answers.Answer.TheVariants as answer
-use Rattle.lu_msg.specs.declared.answers.Errno.TheVariants.{ENOENT, EEXIST, ENOTDIR, EISDIR, ENOTEMPTY, EPERM, EINVAL, EBUSY, EBADF, ENAMETOOLONG, EIO}
+use Rattle.lu_msg.specs.declared.answers.Errno.TheVariants.{ENOENT, EEXIST, ENOTDIR, EISDIR, ENOTEMPTY, EPERM, EINVAL, EBUSY, EBADF}
+use Rattle.lu_msg.specs.declared.answers.Errno.TheVariants.{ENAMETOOLONG, EIO}
 use Rattle.lu_msg.specs.declared.calls.Call.{Call}
 use Rattle.lu_msg.specs.declared.calls.Call.TheVariants as call
 use Rattle.lu_msg.specs.declared.messages.LockReplay.{LockReplay}
@@ -191,16 +192,104 @@ messages =
     ∷ (message.Cancel (life 1 2) 3 (cookie 4 5), codes "cancel c1.2 3 4.5")
     ∷ (message.Where (life 1 2) 3 (cookie 4 5), codes "where c1.2 3 4.5")
     ∷ (message.Join (life 1 2) 3, codes "join c1.2 3")
-    ∷ (message.Replay (record { who = life 1 2; boot = 3; txn = txn 4 5; xid = xid 6; tag = 7; seen = pair 1 2 ∷ pair 1 3 ∷ []; op = op.Mkdir a }), codes "replay c1.2 3 4.5 6/7 1.2,1.3 mkdir /a")
-    ∷ (message.Lock (record { who = life 1 2; boot = 3; cookie = cookie 4 5; resource = object 0 1 0; mode = PR; policy = Bits 3 }), codes "lock c1.2 3 4.5 0.1 PR 3")
-    ∷ (message.Lock (record { who = life 1 2; boot = 3; cookie = cookie 4 5; resource = object 1 6 0; mode = PW; policy = Range (extent 0 9) }), codes "lock c1.2 3 4.5 1.6/0 PW 0-9")
+    ∷ (
+      message.Replay (record {
+        who = life 1 2;
+        boot = 3;
+        txn = txn 4 5;
+        xid = xid 6;
+        tag = 7;
+        seen = pair 1 2 ∷ pair 1 3 ∷ [];
+        op =
+            op.Mkdir a;
+      }),
+      codes "replay c1.2 3 4.5 6/7 1.2,1.3 mkdir /a",
+    )
+    ∷ (
+      message.Lock (record { who = life 1 2; boot = 3; cookie = cookie 4 5; resource = object 0 1 0; mode = PR; policy = Bits 3 }),
+      codes "lock c1.2 3 4.5 0.1 PR 3",
+    )
+    ∷ (
+      message.Lock (record {
+        who = life 1 2;
+        boot = 3;
+        cookie = cookie 4 5;
+        resource = object 1 6 0;
+        mode = PW;
+        policy =
+            Range (extent 0 9);
+      }),
+      codes "lock c1.2 3 4.5 1.6/0 PW 0-9",
+    )
     ∷ (message.Word (life 1 2) 3 4 5 (pair 1 2 ∷ []), codes "word c1.2 3 4 5 1.2")
-    ∷ (message.Size (record { who = life 1 2; boot = 3; cookie = cookie 4 5; for_who = life 6 7; xid = xid 8; size = Some 9; stamp = record { 0 = 1 } }), codes "size c1.2 3 4.5 c6.7 8 9")
-    ∷ (message.Size (record { who = life 1 2; boot = 3; cookie = cookie 4 5; for_who = life 6 7; xid = xid 8; size = None; stamp = record { 0 = 1 } }), codes "size c1.2 3 4.5 c6.7 8 -")
-    ∷ (message.Reply (record { who = life 1 2; boot = 3; xid = xid 4; txn = txn 5 6; committed = txn 7 8; seen = pair 1 2 ∷ pair 1 3 ∷ []; at = turn 9 (Target 0); locks = lock 4 5 (object 1 6 0) PR (Bits 1) ∷ lock 4 7 (object 0 1 0) PR (Bits 2) ∷ []; answer = answer.Dir (fid 1 6) }), codes "reply c1.2 3 4 5.6 7.8 1.2,1.3 9:t0 4.5:1.6:1,4.7:0.1:2 dir 1.6")
-    ∷ (message.Reply (record { who = life 1 2; boot = 3; xid = xid 4; txn = txn 0 0; committed = txn 0 0; seen = []; at = turn 9 (Client 3); locks = []; answer = answer.Refused ENOENT }), codes "reply c1.2 3 4 0.0 0.0 - 9:c3 - ENOENT")
+    ∷ (
+      message.Size (record {
+        who = life 1 2;
+        boot = 3;
+        cookie = cookie 4 5;
+        for_who = life 6 7;
+        xid = xid 8;
+        size = Some 9;
+        stamp =
+            record { 0 = 1 };
+      }),
+      codes "size c1.2 3 4.5 c6.7 8 9",
+    )
+    ∷ (
+      message.Size (record {
+        who = life 1 2;
+        boot = 3;
+        cookie = cookie 4 5;
+        for_who = life 6 7;
+        xid = xid 8;
+        size = None;
+        stamp =
+            record { 0 = 1 };
+      }),
+      codes "size c1.2 3 4.5 c6.7 8 -",
+    )
+    ∷ (
+      message.Reply (record {
+        who = life 1 2;
+        boot = 3;
+        xid = xid 4;
+        txn = txn 5 6;
+        committed = txn 7 8;
+        seen = pair 1 2 ∷ pair 1 3 ∷ [];
+        at = turn 9 (Target 0);
+        locks = lock 4 5 (object 1 6 0) PR (Bits 1) ∷ lock 4 7 (object 0 1 0) PR (Bits 2) ∷ [];
+        answer =
+            answer.Dir (fid 1 6);
+      }),
+      codes "reply c1.2 3 4 5.6 7.8 1.2,1.3 9:t0 4.5:1.6:1,4.7:0.1:2 dir 1.6",
+    )
+    ∷ (
+      message.Reply (record {
+        who = life 1 2;
+        boot = 3;
+        xid = xid 4;
+        txn = txn 0 0;
+        committed = txn 0 0;
+        seen = [];
+        at = turn 9 (Client 3);
+        locks = [];
+        answer = answer.Refused ENOENT;
+      }),
+      codes "reply c1.2 3 4 0.0 0.0 - 9:c3 - ENOENT",
+    )
     ∷ (message.Up 3, codes "up 3")
-    ∷ (message.Grant (record { who = life 1 2; boot = 3; cookie = cookie 4 5; extent = extent 0 the_end; size = 6; committed = txn 7 8; seen = pair 1 2 ∷ [] }), codes "grant c1.2 3 4.5 0-end 6 7.8 1.2")
+    ∷ (
+      message.Grant (record {
+        who = life 1 2;
+        boot = 3;
+        cookie = cookie 4 5;
+        extent = extent 0 the_end;
+        size = 6;
+        committed = txn 7 8;
+        seen = pair 1 2 ∷ [];
+      }),
+      codes "grant c1.2 3 4.5 0-end 6 7.8 1.2",
+    )
     ∷ (message.Block (life 1 2) 3 (cookie 4 5), codes "block c1.2 3 4.5")
     ∷ (message.Ask (life 1 2) 3 (cookie 4 5) (life 6 7) (xid 8), codes "ask c1.2 3 4.5 c6.7 8")
     ∷ (message.Ready (life 1 2) 3 (txn 4 5), codes "ready c1.2 3 4.5")

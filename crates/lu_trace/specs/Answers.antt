@@ -2,9 +2,11 @@
 use Rattle.std.specs.Prelude.{ℕ, List, [], ◌∷◌, length, codes, decimal}
 use Rattle.lu_base.specs.Texts.{pair_text, bytes_text}
 use Rattle.lu_msg.specs.declared.answers.Errno.{Errno}
-use Rattle.lu_msg.specs.declared.answers.Errno.TheVariants.{ENOENT, EEXIST, ENOTDIR, EISDIR, ENOTEMPTY, EPERM, EINVAL, EBUSY, EBADF, ENAMETOOLONG, EIO}
+use Rattle.lu_msg.specs.declared.answers.Errno.TheVariants.{ENOENT, EEXIST, ENOTDIR, EISDIR, ENOTEMPTY, EPERM, EINVAL, EBUSY, EBADF}
+use Rattle.lu_msg.specs.declared.answers.Errno.TheVariants.{ENAMETOOLONG, EIO}
 use Rattle.lu_msg.specs.declared.answers.Answer.{Answer}
-use Rattle.lu_msg.specs.declared.answers.Answer.TheVariants.{Done, Made, Dir, File, DirStat, FileStat, FileSize, Names, Layout, OpenFile, Granted, Waiting, Content, Size, Lock, Sizes, Uncovered, Refused}
+use Rattle.lu_msg.specs.declared.answers.Answer.TheVariants.{Done, Made, Dir, File, DirStat, FileStat, FileSize, Names, Layout, OpenFile}
+use Rattle.lu_msg.specs.declared.answers.Answer.TheVariants.{Granted, Waiting, Content, Size, Lock, Sizes, Uncovered, Refused}
 use Rattle.lu_trace.specs.Words.{words}
 use Rattle.lu_trace.specs.Values.{extent_text}
 use Rattle.lu_base.specs.Values.{octal_text}

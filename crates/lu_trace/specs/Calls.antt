@@ -3,7 +3,8 @@ use Rattle.std.specs.Prelude.{ℕ, ℤ, List, [], ◌∷◌, Option, Some, None,
 use Rattle.std.specs.Fmt.{signed_decimal}
 use Rattle.lu_base.specs.Texts.{bytes_text, path_text}
 use Rattle.lu_msg.specs.declared.calls.Call.{Call}
-use Rattle.lu_msg.specs.declared.calls.Call.TheVariants.{Lookup, Stat, List as ListNames, Layout, Mkdir, Create, Link, Unlink, Rmdir, Rename, Chmod, Open, Close, Read, Write, Cut, Flush, Glimpse}
+use Rattle.lu_msg.specs.declared.calls.Call.TheVariants.{Lookup, Stat, List as ListNames, Layout, Mkdir, Create, Link, Unlink, Rmdir}
+use Rattle.lu_msg.specs.declared.calls.Call.TheVariants.{Rename, Chmod, Open, Close, Read, Write, Cut, Flush, Glimpse}
 use Rattle.lu_trace.specs.Words.{words}
 use Rattle.lu_base.specs.Values.{octal_text}
 

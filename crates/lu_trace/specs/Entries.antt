@@ -5,7 +5,9 @@ use Rattle.lu_base.specs.declared.locks.Lock.{Lock}
 use Rattle.lu_base.specs.declared.locks.Cause.{Cause}
 use Rattle.lu_base.specs.declared.locks.Cause.TheVariants.{Absent, Gap, Expired, Replaced}
 use Rattle.lu_trace.specs.declared.entries.Entry.{Entry}
-use Rattle.lu_trace.specs.declared.entries.Entry.TheVariants.{Begin, Busy, Skip, Send, Take, Tick, Heard, Hold, Drop, Told, Peek, Life, Die, Act, Txn, Grant, Wait, Block, Release, Commit, Crash, Boot, Back, Close, Kept, Restore, Evict, Joined, Fail}
+use Rattle.lu_trace.specs.declared.entries.Entry.TheVariants.{Begin, Busy, Skip, Send, Take, Tick, Heard, Hold, Drop, Told, Peek, Life, Die}
+use Rattle.lu_trace.specs.declared.entries.Entry.TheVariants.{Act, Txn, Grant, Wait, Block, Release, Commit, Crash, Boot, Back, Close, Kept}
+use Rattle.lu_trace.specs.declared.entries.Entry.TheVariants.{Restore, Evict, Joined, Fail}
 use Rattle.lu_trace.specs.declared.entries.Line.{Line}
 use Rattle.lu_trace.specs.Words.{words}
 use Rattle.lu_base.specs.Values.{node_text, target_text, mode_text}

@@ -9,7 +9,8 @@ use Rattle.lu_base.specs.declared.locks.Policy.{Policy}
 use Rattle.lu_base.specs.declared.locks.Resource.{Resource}
 use Rattle.lu_msg.specs.declared.messages.Message.{Message}
 use Rattle.lu_msg.specs.declared.messages.Reply.{Reply as ReplyBody}
-use Rattle.lu_msg.specs.declared.messages.Message.TheVariants.{Request, Cancel, Where, Replay, Lock, Word, Join, Size, Up, Reply, Grant, Block, Ask, Ready, Evicted}
+use Rattle.lu_msg.specs.declared.messages.Message.TheVariants.{Request, Cancel, Where, Replay, Lock, Word, Join, Size, Up, Reply, Grant}
+use Rattle.lu_msg.specs.declared.messages.Message.TheVariants.{Block, Ask, Ready, Evicted}
 use Rattle.lu_trace.specs.Words.{words}
 use Rattle.lu_base.specs.Values.{mode_text}
 use Rattle.lu_trace.specs.Values.{who_text, at_text, extent_text, policy_text, resource_text}
@@ -43,7 +44,8 @@ message_text (Request r) = words (codes "req" ∷ who_text r.who ∷ decimal r.b
 message_text (Cancel who boot cookie) = of_lock_text (codes "cancel") who boot cookie
 message_text (Where who boot cookie) = of_lock_text (codes "where") who boot cookie
 message_text (Replay r) =
-    words (codes "replay" ∷ who_text r.who ∷ decimal r.boot ∷ pair_text r.txn.0 ∷ tagged_text r.xid r.tag ∷ seen_text r.seen ∷ op_text r.op ∷ [])
+    words (codes "replay" ∷ who_text r.who ∷ decimal r.boot ∷ pair_text r.txn.0 ∷ tagged_text r.xid r.tag ∷ seen_text r.seen ∷ op_text r.op
+    ∷ [])
 message_text (Lock l) =
     words (codes "lock" ∷ who_text l.who ∷ decimal l.boot ∷ pair_text l.cookie.0
     ∷ resource_text l.resource l.policy ∷ mode_text l.mode ∷ policy_text l.policy ∷ [])

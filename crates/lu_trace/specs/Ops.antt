@@ -5,7 +5,8 @@ use Rattle.lu_base.specs.declared.ids.Cookie.{Cookie}
 use Rattle.lu_base.specs.declared.locks.Resource.{Resource}
 use Rattle.lu_base.specs.Texts.{pair_text, bytes_text, path_text}
 use Rattle.lu_msg.specs.declared.operations.Op.{Op}
-use Rattle.lu_msg.specs.declared.operations.Op.TheVariants.{Lookup, Stat, List as ListNames, Layout, Mkdir, Create, Link, Unlink, Rmdir, Rename, Chmod, Open, Close, Enqueue, Get, Put, Cut, Size}
+use Rattle.lu_msg.specs.declared.operations.Op.TheVariants.{Lookup, Stat, List as ListNames, Layout, Mkdir, Create, Link, Unlink, Rmdir}
+use Rattle.lu_msg.specs.declared.operations.Op.TheVariants.{Rename, Chmod, Open, Close, Enqueue, Get, Put, Cut, Size}
 use Rattle.lu_trace.specs.Words.{words}
 use Rattle.lu_trace.specs.Values.{object_text, extent_text}
 use Rattle.lu_base.specs.Values.{octal_text, mode_text}

@@ -1,21 +1,23 @@
 -- What the map of directories has after a change is what the tree has.
-use Rattle.std.proofs.Common.{◌≡◌, ℕ, Bool, true, false, not, if◌then◌else◌, inl, inr, arith, List, [], ◌∷◌, Some, None, refl, sym, ap, subst, ◌∙◌}
+use Rattle.std.proofs.Common.{◌≡◌, ℕ, Bool, true, false, not, if◌then◌else◌, inl, inr, arith, List, [], ◌∷◌, Some, None, refl, sym, ap}
+use Rattle.std.proofs.Common.{subst, ◌∙◌}
 use Rattle.std.specs.BTreeMap.{insert_entry, is_at}
 use Rattle.std.specs.Map.{keys_of, lookup, remove_entry, set_value}
 use Rattle.std.specs.Option.{unwrap_or}
 use Rattle.std.specs.declared.cmp.Ordering.{Ordering}
 use Rattle.lu_base.specs.declared.ids.Fid.{Fid}
-use Rattle.lu_machine.specs.declared.child.Child.{Child}
-use Rattle.lu_machine.specs.declared.child.Child.TheVariants.{Dir}
-use Rattle.lu_machine.specs.Entries.{without, place}
-use Rattle.lu_machine.specs.Name.{same_name}
-use Rattle.lu_machine.specs.Order.{IsOrdered}
-use Rattle.lu_machine.specs.Tree.{Tree, Directory, Inode, no_directory, same_fid, fid_cmp, directory, listing}
-use Rattle.lu_machine.specs.Change.{Change, Leads, Drops, MakesDir, SetMode, Leaves, put_dir, put_file, put_name, new_directory, leave, change}
-use Rattle.lu_machine.specs.Effect.{without_name}
-use Rattle.lu_machine.proofs.Effects.{dir_put, listing_after}
-use Rattle.lu_machine.proofs.Keys.{Told, fid_tells}
-use Rattle.lu_machine.proofs.Ordered.{change_ordered}
+use Rattle.lu_spec_machine.specs.declared.child.Child.{Child}
+use Rattle.lu_spec_machine.specs.declared.child.Child.TheVariants.{Dir}
+use Rattle.lu_spec_machine.specs.Entries.{without, place}
+use Rattle.lu_spec_machine.specs.Name.{same_name}
+use Rattle.lu_spec_machine.specs.Order.{IsOrdered}
+use Rattle.lu_spec_machine.specs.Tree.{Tree, Directory, Inode, no_directory, same_fid, fid_cmp, directory, listing}
+use Rattle.lu_spec_machine.specs.Change.{Change, Leads, Drops, MakesDir, SetMode, Leaves, put_dir, put_file, put_name, new_directory, leave}
+use Rattle.lu_spec_machine.specs.Change.{change}
+use Rattle.lu_spec_machine.specs.Effect.{without_name}
+use Rattle.lu_spec_machine.proofs.Effects.{dir_put, listing_after}
+use Rattle.lu_spec_machine.proofs.Keys.{Told, fid_tells}
+use Rattle.lu_spec_machine.proofs.Ordered.{change_ordered}
 use Rattle.lu_tree.proofs.Maps.{fid_found, fid_put, fid_set, fid_gone}
 
 pub no_keys : {K A : Type 0} (es : List (K × A)) → keys_of es ≡ [] → es ≡ []
@@ -42,16 +44,21 @@ module _ (t : Tree) (o : IsOrdered t) (d : Fid) where
       ∙ ap (λ (x : Directory). put_dir d (record { mode = x.mode; entries = put_name n c x.entries }) t.dirs) (sym (not_found h))
 
   pub dropped : (n : List ℕ) (w : Directory) → lookup (is_at (fid_cmp d)) t.dirs ≡ Some w
-      → set_value (is_at (fid_cmp d)) t.dirs (record { mode = w.mode; entries = without (same_name n) w.entries }) ≡ (change t (Drops d n)).dirs
+      → set_value (is_at (fid_cmp d)) t.dirs (record { mode = w.mode; entries = without (same_name n) w.entries })
+      ≡ (change t (Drops d n)).dirs
   dropped n w h =
       fid_set d (record { mode = w.mode; entries = without (same_name n) w.entries }) w t.dirs o.dirs h
       ∙ ap (λ (x : Directory). put_dir d (record { mode = x.mode; entries = without (same_name n) x.entries }) t.dirs) (sym (found w h))
 
-  pub moded : (m : ℕ) (w : Directory) → lookup (is_at (fid_cmp d)) t.dirs ≡ Some w → set_value (is_at (fid_cmp d)) t.dirs (record { mode = m; entries = w.entries }) ≡ (change t (SetMode (Dir d) m)).dirs
-  moded m w h = fid_set d (record { mode = m; entries = w.entries }) w t.dirs o.dirs h ∙ ap (λ (x : Directory). put_dir d (record { mode = m; entries = x.entries }) t.dirs) (sym (found w h))
+  pub moded : (m : ℕ) (w : Directory) → lookup (is_at (fid_cmp d)) t.dirs ≡ Some w
+      → set_value (is_at (fid_cmp d)) t.dirs (record { mode = m; entries = w.entries }) ≡ (change t (SetMode (Dir d) m)).dirs
+  moded m w h = fid_set d (record { mode = m; entries = w.entries }) w t.dirs o.dirs h
+      ∙ ap (λ (x : Directory). put_dir d (record { mode = m; entries = x.entries }) t.dirs) (sym (found w h))
 
-  pub moded_new : (m : ℕ) → lookup (is_at (fid_cmp d)) t.dirs ≡ None → insert_entry fid_cmp t.dirs d (record { mode = m; entries = [] }) ≡ (change t (SetMode (Dir d) m)).dirs
-  moded_new m h = fid_put d (record { mode = m; entries = [] }) t.dirs o.dirs ∙ ap (λ (x : Directory). put_dir d (record { mode = m; entries = x.entries }) t.dirs) (sym (not_found h))
+  pub moded_new : (m : ℕ) → lookup (is_at (fid_cmp d)) t.dirs ≡ None → insert_entry fid_cmp t.dirs d (record { mode = m; entries = [] })
+      ≡ (change t (SetMode (Dir d) m)).dirs
+  moded_new m h = fid_put d (record { mode = m; entries = [] }) t.dirs o.dirs
+      ∙ ap (λ (x : Directory). put_dir d (record { mode = m; entries = x.entries }) t.dirs) (sym (not_found h))
 
   pub made : insert_entry fid_cmp t.dirs d new_directory ≡ (change t (MakesDir d)).dirs
   made = fid_put d new_directory t.dirs o.dirs
@@ -64,7 +71,8 @@ abbrev pub with_dirs : Tree → List (Fid × Directory) → Tree
 with_dirs t ds = record t { dirs = ds }
 
 -- after a change of directories a tree is in order
-pub still_ordered : (t : Tree) (x : Change) (ds : List (Fid × Directory)) → IsOrdered t → ds ≡ (change t x).dirs → change t x ≡ with_dirs t (change t x).dirs → IsOrdered (with_dirs t ds)
+pub still_ordered : (t : Tree) (x : Change) (ds : List (Fid × Directory)) → IsOrdered t → ds ≡ (change t x).dirs → change t x
+    ≡ with_dirs t (change t x).dirs → IsOrdered (with_dirs t ds)
 still_ordered t x ds o is same = subst IsOrdered (same ∙ ap (with_dirs t) (sym is)) (change_ordered t x o)
 
 -- ---- what is made and leaves at once
@@ -74,11 +82,13 @@ module _ {K A : Type 0} (same : K → K → Bool) (tells : (a b : K) → Told sa
   without_absent k [] h = refl
   without_absent k (e ∷ es) h = by (same k e.0) h (without_absent k es)
     where
-      by : (v : Bool) → (if v then Some e.1 else lookup (same k) es) ≡ None → (lookup (same k) es ≡ None → without (same k) es ≡ es) → (if not v then e ∷ without (same k) es else without (same k) es) ≡ e ∷ es
+      by : (v : Bool) → (if v then Some e.1 else lookup (same k) es) ≡ None → (lookup (same k) es ≡ None → without (same k) es ≡ es)
+          → (if not v then e ∷ without (same k) es else without (same k) es) ≡ e ∷ es
       by true h ih = absurd (cc)
       by false h ih = ap (λ xs. e ∷ xs) (ih h)
 
-  without_place : (cmp : K → K → Ordering) (k : K) (a : A) (es : List (K × A)) → lookup (same k) es ≡ None → without (same k) (place cmp k a es) ≡ es
+  without_place : (cmp : K → K → Ordering) (k : K) (a : A) (es : List (K × A)) → lookup (same k) es ≡ None
+      → without (same k) (place cmp k a es) ≡ es
   without_place cmp k a [] h = let t = tells k k in grind (arith, t)
   without_place cmp k a (e ∷ es) h =
       let t = tells k k in
@@ -89,8 +99,10 @@ module _ {K A : Type 0} (same : K → K → Bool) (tells : (a b : K) → Told sa
 pub unmade : (t : Tree) (f : Fid) → lookup (same_fid f) t.dirs ≡ None → change (change t (MakesDir f)) (Leaves f) ≡ t
 unmade t f h =
     let new = put_dir f new_directory t.dirs in
-    let none : (directory (change t (MakesDir f)) f).entries ≡ [] = ap (λ (x : Directory). x.entries) (dir_put f new_directory f t.dirs) ∙ own (fid_tells f f) in
-    ap (λ es. with_dirs t (leave f es new)) none ∙ ap (λ ds. with_dirs t (without (same_fid f) (place fid_cmp f new_directory ds))) (without_absent same_fid fid_tells f t.dirs h)
+    let none : (directory (change t (MakesDir f)) f).entries ≡ [] = ap (λ (x : Directory). x.entries) (dir_put f new_directory f t.dirs)
+    ∙ own (fid_tells f f) in
+    ap (λ es. with_dirs t (leave f es new)) none ∙ ap (λ ds. with_dirs t (without (same_fid f) (place fid_cmp f new_directory ds)))
+    (without_absent same_fid fid_tells f t.dirs h)
     ∙ ap (with_dirs t) (without_place same_fid fid_tells fid_cmp f new_directory t.dirs h)
   where
     own : Told same_fid f f → (if same_fid f f then new_directory else unwrap_or (lookup (same_fid f) t.dirs) no_directory).entries ≡ []
@@ -98,7 +110,8 @@ unmade t f h =
     own (inr q) = absurd (q.1 refl)
 
 -- a file that is made and leaves at once
-pub unmade_file : (t : Tree) (f : Fid) (x : Inode) → lookup (same_fid f) t.files ≡ None → record t { files = without (same_fid f) (put_file f x t.files) } ≡ t
+pub unmade_file : (t : Tree) (f : Fid) (x : Inode) → lookup (same_fid f) t.files ≡ None
+    → record t { files = without (same_fid f) (put_file f x t.files) } ≡ t
 unmade_file t f x h =
     ap (λ fs. record t { files = without (same_fid f) (place fid_cmp f x fs) }) (without_absent same_fid fid_tells f t.files h)
     ∙ ap (λ fs. record t { files = fs }) (without_place same_fid fid_tells fid_cmp f x t.files h)

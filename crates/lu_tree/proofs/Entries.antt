@@ -4,10 +4,11 @@ use Rattle.std.specs.Prelude.{if◌then◌else◌}
 use Rattle.std.specs.declared.cmp.Ordering.{Ordering}
 use Rattle.std.specs.List.{AllByRecursion, filter}
 use Rattle.std.specs.Ordering.{is_lt}
-use Rattle.lu_machine.specs.Entries.{place}
+use Rattle.lu_spec_machine.specs.Entries.{place}
 
 module _ {K A : Type 0} (P : K × A → Type 0) where
-  pub all_place : (cmp : K → K → Ordering) (k : K) (a : A) (es : List (K × A)) → P (k, a) → AllByRecursion P es → AllByRecursion P (place cmp k a es)
+  pub all_place : (cmp : K → K → Ordering) (k : K) (a : A) (es : List (K × A)) → P (k, a) → AllByRecursion P es
+      → AllByRecursion P (place cmp k a es)
   all_place cmp k a [] p h = (p, tt)
   all_place cmp k a (e ∷ es) p h = by (is_lt (cmp k e.0)) (all_place cmp k a es p h.1)
     where

@@ -3,8 +3,8 @@ use Rattle.std.proofs.Common.{◌≡◌, ℕ, zero, suc, ◌<◌, ◌≤◌, Som
 use Rattle.std.specs.Prelude.{if◌then◌else◌}
 use Rattle.lu_base.specs.declared.ids.Txn.{Txn}
 use Rattle.lu_layout.specs.Sound.{IsLayout}
-use Rattle.lu_machine.specs.Striping.{stripe_size, stripe_count, layout_for, new_layout}
-use Rattle.lu_machine.proofs.Layouts.{new_layouts}
+use Rattle.lu_spec_machine.specs.Striping.{stripe_size, stripe_count, layout_for, new_layout}
+use Rattle.lu_spec_machine.proofs.Layouts.{new_layouts}
 use Rattle.lu_tree.specs.Ends.{IsStriping, striped}
 
 own_size : (size : ℕ) → 0 < size → stripe_size size ≡ size
@@ -15,7 +15,8 @@ own_count : (osts count : ℕ) → 0 < count → stripe_count osts (pos count) �
 own_count osts zero h = absurd (omega (arith, h))
 own_count osts (suc n) h = refl
 
-pub striping_sound : (osts : ℕ) (number : Txn) (size count : ℕ) → 1 ≤ osts → osts ≤ 8 → IsStriping osts size count → IsLayout (striped osts number size count)
+pub striping_sound : (osts : ℕ) (number : Txn) (size count : ℕ) → 1 ≤ osts → osts ≤ 8 → IsStriping osts size count
+    → IsLayout (striped osts number size count)
 striping_sound osts number size count some most h =
     let made : new_layout osts number size (pos count) ≡ Some (striped osts number size count) =
     ap (λ z. layout_for osts number z (stripe_count osts (pos count))) (own_size size h.some_size)

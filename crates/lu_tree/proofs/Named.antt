@@ -5,10 +5,10 @@ use Rattle.std.specs.Map.{lookup}
 use Rattle.std.specs.Option.{unwrap_or}
 use Rattle.std.proofs.lemmas.Bool.Decides.{nat_tests}
 use Rattle.lu_base.specs.declared.ids.Fid.{Fid}
-use Rattle.lu_machine.specs.declared.child.Child.{Child}
-use Rattle.lu_machine.specs.declared.child.Child.TheVariants.{Dir, File}
-use Rattle.lu_machine.specs.Tree.{Tree, Inode, no_file, same_fid, file, child}
-use Rattle.lu_machine.proofs.Count.{is_file, found_file, found_named}
+use Rattle.lu_spec_machine.specs.declared.child.Child.{Child}
+use Rattle.lu_spec_machine.specs.declared.child.Child.TheVariants.{Dir, File}
+use Rattle.lu_spec_machine.specs.Tree.{Tree, Inode, no_file, same_fid, file, child}
+use Rattle.lu_spec_machine.proofs.Count.{is_file, found_file, found_named}
 use Rattle.lu_tree.specs.Ends.{IsReached}
 use Rattle.lu_tree.specs.Lives.{IsThere}
 use Rattle.lu_tree.specs.State.{IsCounted}

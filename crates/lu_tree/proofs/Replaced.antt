@@ -3,14 +3,14 @@ use Rattle.std.proofs.Common.{◌≡◌, ℕ, false, List, [], ◌∷◌, inl, i
 use Rattle.std.specs.Prelude.{if◌then◌else◌}
 use Rattle.std.specs.Map.{lookup}
 use Rattle.lu_base.specs.declared.ids.Fid.{Fid}
-use Rattle.lu_machine.specs.declared.child.Child.{Child}
-use Rattle.lu_machine.specs.declared.child.Child.TheVariants.{Dir, File}
-use Rattle.lu_machine.specs.Name.{same_name}
-use Rattle.lu_machine.specs.Tree.{Tree, Directory, same_fid, child, directory, listing}
-use Rattle.lu_machine.specs.Change.{Drops, Leads, change, changed}
-use Rattle.lu_machine.specs.Effect.{place_name, without_name}
-use Rattle.lu_machine.proofs.Effects.{listing_after}
-use Rattle.lu_machine.proofs.Keys.{Told, fid_tells}
+use Rattle.lu_spec_machine.specs.declared.child.Child.{Child}
+use Rattle.lu_spec_machine.specs.declared.child.Child.TheVariants.{Dir, File}
+use Rattle.lu_spec_machine.specs.Name.{same_name}
+use Rattle.lu_spec_machine.specs.Tree.{Tree, Directory, same_fid, child, directory, listing}
+use Rattle.lu_spec_machine.specs.Change.{Drops, Leads, change, changed}
+use Rattle.lu_spec_machine.specs.Effect.{place_name, without_name}
+use Rattle.lu_spec_machine.proofs.Effects.{listing_after}
+use Rattle.lu_spec_machine.proofs.Keys.{Told, fid_tells}
 use Rattle.lu_tree.specs.Ends.{MayLeave, leaving}
 use Rattle.lu_tree.specs.Lives.{IsThere}
 use Rattle.lu_tree.proofs.Dirs.{no_keys, still_empty, with_dirs}
@@ -38,9 +38,11 @@ pub may_leave_dropped : (t : Tree) (d : Fid) (n : List ℕ) (g : Child) → MayL
 may_leave_dropped t d n (Dir g) h = still_empty t d n g h
 may_leave_dropped t d n (File g) h = tt
 
-pub may_leave_still : (t : Tree) (d : Fid) (n : List ℕ) (e : Fid) (m : List ℕ) (c g : Child) → child t e m ≡ Some g → MayLeave t g → MayLeave (changed t (Drops d n ∷ Leads e m c ∷ [])) g
+pub may_leave_still : (t : Tree) (d : Fid) (n : List ℕ) (e : Fid) (m : List ℕ) (c g : Child) → child t e m ≡ Some g → MayLeave t g
+    → MayLeave (changed t (Drops d n ∷ Leads e m c ∷ [])) g
 may_leave_still t d n e m c (File g) named h = tt
 may_leave_still t d n e m c (Dir g) named h =
     listing_after (change t (Drops d n)) (Leads e m c) g
-    ∙ ap (λ v. if v then place_name m (without_name m (listing (change t (Drops d n)) g)) else listing (change t (Drops d n)) g) (not_own t e m g named h)
+    ∙ ap (λ v. if v then place_name m (without_name m (listing (change t (Drops d n)) g)) else listing (change t (Drops d n)) g)
+    (not_own t e m g named h)
     ∙ still_empty t d n g h

@@ -5,16 +5,16 @@ use Rattle.std.specs.Option.{unwrap_or}
 use Rattle.lu_base.specs.declared.ids.Txn.{Txn}
 use Rattle.lu_base.specs.declared.ids.Who.{Who}
 use Rattle.lu_msg.specs.declared.operations.Op.{Op}
-use Rattle.lu_machine.specs.declared.child.Child.{Child}
-use Rattle.lu_machine.specs.Change.{Change, changed}
-use Rattle.lu_machine.specs.Footprint.{forget, is_some_change, outcome_of}
-use Rattle.lu_machine.specs.Table.{made_by}
-use Rattle.lu_machine.specs.Tree.{Tree, no_file}
-use Rattle.lu_machine.specs.Trim.{trim}
-use Rattle.lu_machine.proofs.Ordered.{changes_ordered}
-use Rattle.lu_machine.proofs.Outcomes.{Comes}
-use Rattle.lu_machine.proofs.Sound.{Sound, sound_after as machine_sound_after}
-use Rattle.lu_machine.proofs.Stated.{comes}
+use Rattle.lu_spec_machine.specs.declared.child.Child.{Child}
+use Rattle.lu_spec_machine.specs.Change.{Change, changed}
+use Rattle.lu_spec_machine.specs.Footprint.{forget, is_some_change, outcome_of}
+use Rattle.lu_spec_machine.specs.Table.{made_by}
+use Rattle.lu_spec_machine.specs.Tree.{Tree, no_file}
+use Rattle.lu_spec_machine.specs.Trim.{trim}
+use Rattle.lu_spec_machine.proofs.Ordered.{changes_ordered}
+use Rattle.lu_spec_machine.proofs.Outcomes.{Comes}
+use Rattle.lu_spec_machine.proofs.Sound.{Sound, sound_after as machine_sound_after}
+use Rattle.lu_spec_machine.proofs.Stated.{comes}
 use Rattle.lu_tree.specs.declared.ends.End.{End}
 use Rattle.lu_tree.specs.Ends.{changes_of, ended, IsFresh, Seen}
 use Rattle.lu_tree.specs.State.{TreeState, IsCounted, IsUsed, IsSound, asked}
@@ -35,12 +35,19 @@ trim_counted t h = λ f. omega (arith, h f, trim_links t f)
 
 -- by the law of the plain machine
 still_counted : (s : TreeState) (number : Txn) (who : Who) (op : Op) (passed : List Child) (end : End) → IsSound s → s.last < number.0
-    → outcome_of s.osts s.tree (asked number who op) ≡ ended s.osts s.tree number who passed end → IsCounted (changed s.tree (changes_of s.osts s.tree number who end))
+    → outcome_of s.osts s.tree (asked number who op) ≡ ended s.osts s.tree number who passed end
+    → IsCounted (changed s.tree (changes_of s.osts s.tree number who end))
 still_counted s number who op passed end h lt is =
-    let before : Sound s.tree s.last = record { counted = h.counted; fresh = λ f above. ap (λ o. (unwrap_or o no_file).links) (none_above s.last f s.tree.files h.used.files above) } in
-    (machine_sound_after s.tree s.last number who before lt (ended s.osts s.tree number who passed end) (subst (Comes s.tree number who) is (comes s.osts s.tree (asked number who op)))).counted
+    let before : Sound s.tree s.last = record {
+      counted = h.counted;
+      fresh =
+          λ f above. ap (λ o. (unwrap_or o no_file).links) (none_above s.last f s.tree.files h.used.files above);
+    } in
+    (machine_sound_after s.tree s.last number who before lt (ended s.osts s.tree number who passed end)
+    (subst (Comes s.tree number who) is (comes s.osts s.tree (asked number who op)))).counted
 
-sound_end : (s : TreeState) (number : Txn) (who : Who) (op : Op) (passed : List Child) (end : End) → IsSound s → s.last < number.0 → Seen s.osts s.tree end
+sound_end : (s : TreeState) (number : Txn) (who : Who) (op : Op) (passed : List Child) (end : End) → IsSound s → s.last < number.0
+    → Seen s.osts s.tree end
     → outcome_of s.osts s.tree (asked number who op) ≡ ended s.osts s.tree number who passed end
     → IsSound (record { osts = s.osts; last = number.0; tree = trim (changed s.tree (changes_of s.osts s.tree number who end)) })
 sound_end s number who op passed end h lt seen is =
@@ -49,7 +56,8 @@ sound_end s number who op passed end h lt seen is =
       some = h.some;
       most = h.most;
       ordered = trim_ordered (changed s.tree xs) (changes_ordered s.tree xs h.ordered);
-      used = used_trim number.0 (changed s.tree xs) (used_changes number.0 s.tree xs (end_fits s.last s.osts number who s.tree end lt h.used seen) (used_more s.last number.0 s.tree (omega arith) h.used));
+      used = used_trim number.0 (changed s.tree xs) (used_changes number.0 s.tree xs
+          (end_fits s.last s.osts number who s.tree end lt h.used seen) (used_more s.last number.0 s.tree (omega arith) h.used));
       counted = trim_counted (changed s.tree xs) (still_counted s number who op passed end h lt is);
       lean = lean_twice (changed s.tree xs);
     }
@@ -70,15 +78,26 @@ no_change : (xs : List Change) → is_some_change xs ≡ false → xs ≡ []
 no_change [] h = refl
 no_change (x ∷ xs) h = absurd (cc)
 
-pub sound_after : (s : TreeState) (number : Txn) (who : Who) (op : Op) (passed : List Child) (end : End) → IsSound s → (is_some_change (changes_of s.osts s.tree number who end) ≡ true → s.last < number.0)
+pub sound_after : (s : TreeState) (number : Txn) (who : Who) (op : Op) (passed : List Child) (end : End) → IsSound s
+    → (is_some_change (changes_of s.osts s.tree number who end) ≡ true → s.last < number.0)
     → Seen s.osts s.tree end → outcome_of s.osts s.tree (asked number who op) ≡ ended s.osts s.tree number who passed end
-    → IsSound (record { osts = s.osts; last = if is_some_change (changes_of s.osts s.tree number who end) then number.0 else s.last; tree = trim (changed s.tree (changes_of s.osts s.tree number who end)) })
+    → IsSound (record {
+      osts = s.osts;
+      last = if is_some_change (changes_of s.osts s.tree number who end) then number.0 else s.last;
+      tree =
+          trim (changed s.tree (changes_of s.osts s.tree number who end));
+    })
 sound_after s number who op passed end h above seen is = by (is_some_change xs) refl
   where
     xs : List Change
     xs = changes_of s.osts s.tree number who end
 
-    by : (v : Bool) → is_some_change xs ≡ v → IsSound (record { osts = s.osts; last = if v then number.0 else s.last; tree = trim (changed s.tree xs) })
+    by : (v : Bool) → is_some_change xs ≡ v → IsSound (record {
+      osts = s.osts;
+      last = if v then number.0 else s.last;
+      tree =
+          trim (changed s.tree xs);
+    })
     by true q = sound_end s number who op passed end h (above q) seen is
     by false q =
         let e : s.tree ≡ trim (changed s.tree xs) = sym h.lean ∙ ap (λ xs. trim (changed s.tree xs)) (sym (no_change xs q)) in

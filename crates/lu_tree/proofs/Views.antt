@@ -1,5 +1,5 @@
 -- What the fields show.
-use Rattle.lu_machine.specs.Tree.{Tree}
+use Rattle.lu_spec_machine.specs.Tree.{Tree}
 use Rattle.lu_tree.specs.declared.inodes.Inodes.TheInside.{Inside}
 
 abbrev pub tree_of : Inside → Tree

@@ -17,15 +17,16 @@ use Rattle.lu_part.specs.declared.parts.Part.{Part}
 use Rattle.lu_part.specs.declared.parts.Part.TheVariants as part
 use Rattle.lu_part.specs.declared.parts.Want.{Want}
 use Rattle.lu_tree.specs.Walks.{looks, reach}
-use Rattle.lu_machine.specs.declared.child.Child.{Child}
-use Rattle.lu_machine.specs.declared.child.Child.TheVariants.{Dir, File}
-use Rattle.lu_machine.specs.Tree.{Tree, same_fid, fid_of, child, listing, directory, file, layout}
-use Rattle.lu_machine.specs.Change.{Change, Leads, Drops, Parted, MakesDir, MakesFile, SetMode, SetLinks, Leaves, Opens, Closes}
-use Rattle.lu_machine.specs.Plan.{Outcome}
-use Rattle.lu_machine.specs.Striping.{is_bad, stripe_targets}
-use Rattle.lu_machine.specs.Table.{root, made_by, found, wants}
+use Rattle.lu_spec_machine.specs.declared.child.Child.{Child}
+use Rattle.lu_spec_machine.specs.declared.child.Child.TheVariants.{Dir, File}
+use Rattle.lu_spec_machine.specs.Tree.{Tree, same_fid, fid_of, child, listing, directory, file, layout}
+use Rattle.lu_spec_machine.specs.Change.{Change, Leads, Drops, Parted, MakesDir, MakesFile, SetMode, SetLinks, Leaves, Opens, Closes}
+use Rattle.lu_spec_machine.specs.Plan.{Outcome}
+use Rattle.lu_spec_machine.specs.Striping.{is_bad, stripe_targets}
+use Rattle.lu_spec_machine.specs.Table.{root, made_by, found, wants}
 use Rattle.lu_tree.specs.declared.ends.End.{End}
-use Rattle.lu_tree.specs.declared.ends.End.TheVariants.{Refused, NotEmpty, Finds, Stats, Lists, Shows, Makes, Creates, Links, Loses, Same, Moves, Replaces, SetsMode, KeepsMode, OpensFile, ClosesFile}
+use Rattle.lu_tree.specs.declared.ends.End.TheVariants.{Refused, NotEmpty, Finds, Stats, Lists, Shows, Makes, Creates, Links, Loses, Same}
+use Rattle.lu_tree.specs.declared.ends.End.TheVariants.{Moves, Replaces, SetsMode, KeepsMode, OpensFile, ClosesFile}
 
 abbrev pub stat_of : Tree → Child → Answer
 stat_of t (Dir d) = told.DirStat d (directory t d).mode
@@ -62,12 +63,14 @@ leaving t (File g) = SetLinks g ((file t g).links - 1)
 -- over this many object storage targets
 abbrev pub changes_of : ℕ → Tree → Txn → Who → End → List Change
 changes_of osts t number who (Makes new) = MakesDir (made_by number) ∷ Leads new.dir new.name.now (Dir (made_by number)) ∷ []
-changes_of osts t number who (Creates new size count) = MakesFile (made_by number) (striped osts number size count) ∷ Leads new.dir new.name.now (File (made_by number)) ∷ []
+changes_of osts t number who (Creates new size count) = MakesFile (made_by number) (striped osts number size count)
+    ∷ Leads new.dir new.name.now (File (made_by number)) ∷ []
 changes_of osts t number who (Links new f) = Leads new.dir new.name.now (File f) ∷ SetLinks f ((file t f).links + 1) ∷ []
 changes_of osts t number who (Loses old g) = Drops old.dir old.name.now ∷ Parted (fid_of g) ∷ leaving t g ∷ []
 changes_of osts t number who (SetsMode c mode) = SetMode c mode ∷ []
 changes_of osts t number who (Moves old c new) = Drops old.dir old.name.now ∷ Leads new.dir new.name.now c ∷ Parted (fid_of c) ∷ []
-changes_of osts t number who (Replaces old c new g) = Drops old.dir old.name.now ∷ Leads new.dir new.name.now c ∷ Parted (fid_of c) ∷ Parted (fid_of g) ∷ leaving t g ∷ []
+changes_of osts t number who (Replaces old c new g) = Drops old.dir old.name.now ∷ Leads new.dir new.name.now c ∷ Parted (fid_of c)
+    ∷ Parted (fid_of g) ∷ leaving t g ∷ []
 changes_of osts t number who (OpensFile f) = Opens number who f ∷ []
 changes_of osts t number who (ClosesFile opened f) = Closes opened who ∷ []
 changes_of osts t number who _ = []
@@ -88,7 +91,12 @@ wanted passed (Some bits) = wants bits passed
 
 -- what comes of it, where a walk has passed these inodes
 abbrev pub ended : ℕ → Tree → Txn → Who → List Child → End → Outcome
-ended osts t number who passed end = record { answer = told_of t number end; grants = wanted passed (bits_of end); changes = changes_of osts t number who end }
+ended osts t number who passed end = record {
+  answer = told_of t number end;
+  grants = wanted passed (bits_of end);
+  changes =
+      changes_of osts t number who end;
+}
 
 -- of what loses a name, the list of a directory or the attributes of a file
 abbrev pub looked_at : Child → List Part
@@ -135,7 +143,8 @@ Seen osts t (Links new f) = IsReached t (Dir new.dir) × (child t new.dir new.na
 Seen osts t (Loses old g) = (child t old.dir old.name.now ≡ Some g) × MayLeave t g
 Seen osts t (SetsMode c mode) = IsReached t c
 Seen osts t (Moves old c new) = (child t old.dir old.name.now ≡ Some c) × (child t new.dir new.name.now ≡ None) × IsReached t (Dir new.dir)
-Seen osts t (Replaces old c new g) = (child t old.dir old.name.now ≡ Some c) × (child t new.dir new.name.now ≡ Some g) × (same_fid (fid_of g) (fid_of c) ≡ false) × MayLeave t g
+Seen osts t (Replaces old c new g) = (child t old.dir old.name.now ≡ Some c) × (child t new.dir new.name.now ≡ Some g)
+    × (same_fid (fid_of g) (fid_of c) ≡ false) × MayLeave t g
 Seen osts t (OpensFile f) = IsReached t (File f)
 Seen osts t _ = Unit {0}
 

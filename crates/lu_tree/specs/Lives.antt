@@ -5,11 +5,11 @@ use Rattle.std.specs.Map.{lookup}
 use Rattle.lu_base.specs.declared.ids.Fid.{Fid}
 use Rattle.lu_base.specs.declared.ids.Txn.{Txn}
 use Rattle.lu_base.specs.declared.ids.Who.{Who}
-use Rattle.lu_machine.specs.declared.child.Child.{Child}
-use Rattle.lu_machine.specs.declared.child.Child.TheVariants.{Dir, File}
-use Rattle.lu_machine.specs.Entries.{without}
-use Rattle.lu_machine.specs.Tree.{Tree, Inode, Opened, same_fid, same_life}
-use Rattle.lu_machine.specs.Trim.{is_alive}
+use Rattle.lu_spec_machine.specs.declared.child.Child.{Child}
+use Rattle.lu_spec_machine.specs.declared.child.Child.TheVariants.{Dir, File}
+use Rattle.lu_spec_machine.specs.Entries.{without}
+use Rattle.lu_spec_machine.specs.Tree.{Tree, Inode, Opened, same_fid, same_life}
+use Rattle.lu_spec_machine.specs.Trim.{is_alive}
 
 abbrev pub is_dead_of : List Opened → Fid → Option Inode → Bool
 is_dead_of opens f None = false

@@ -6,13 +6,14 @@ use Rattle.lu_base.specs.declared.ids.Who.{Who}
 use Rattle.lu_msg.specs.declared.answers.Answer.TheVariants as told
 use Rattle.lu_msg.specs.declared.answers.Errno.{Errno}
 use Rattle.lu_msg.specs.declared.answers.Errno.TheVariants.{EEXIST, EISDIR, EBUSY}
-use Rattle.lu_machine.specs.declared.child.Child.{Child}
-use Rattle.lu_machine.specs.declared.child.Child.TheVariants.{File}
-use Rattle.lu_machine.specs.Change.{Leads, SetLinks}
-use Rattle.lu_machine.specs.Plan.{Plan, LookAttr}
-use Rattle.lu_machine.specs.Tree.{Tree}
-use Rattle.lu_machine.specs.Striping.{new_layout}
-use Rattle.lu_machine.specs.Table.{there, absent, row_lookup, row_stat, row_list, row_layout, row_chmod, row_open, row_mkdir, row_create, row_unlink, row_rmdir, does}
+use Rattle.lu_spec_machine.specs.declared.child.Child.{Child}
+use Rattle.lu_spec_machine.specs.declared.child.Child.TheVariants.{File}
+use Rattle.lu_spec_machine.specs.Change.{Leads, SetLinks}
+use Rattle.lu_spec_machine.specs.Plan.{Plan, LookAttr}
+use Rattle.lu_spec_machine.specs.Tree.{Tree}
+use Rattle.lu_spec_machine.specs.Striping.{new_layout}
+use Rattle.lu_spec_machine.specs.Table.{there, absent, row_lookup, row_stat, row_list, row_layout, row_chmod, row_open, row_mkdir}
+use Rattle.lu_spec_machine.specs.Table.{row_create, row_unlink, row_rmdir, does}
 use Rattle.lu_tree.specs.Ends.{IsReached}
 use Rattle.lu_tree.specs.declared.rows.Ask.{Ask}
 use Rattle.lu_tree.specs.declared.rows.Ask.TheVariants.{Lookup, Stat, List as Names, Layout, Chmod, Open}

@@ -6,12 +6,12 @@ use Rattle.lu_base.specs.declared.ids.Fid.{Fid}
 use Rattle.lu_base.specs.declared.ids.Txn.{Txn}
 use Rattle.lu_base.specs.declared.ids.Who.{Who}
 use Rattle.lu_msg.specs.declared.operations.Op.{Op}
-use Rattle.lu_machine.specs.declared.child.Child.{Child}
-use Rattle.lu_machine.specs.Tree.{Tree, Inode, same_fid, fid_of, file, child}
-use Rattle.lu_machine.specs.Footprint.{Operation, empty, changes, after, forget}
-use Rattle.lu_machine.specs.Order.{IsOrdered}
-use Rattle.lu_machine.specs.Trim.{trim}
-use Rattle.lu_machine.proofs.Count.{named}
+use Rattle.lu_spec_machine.specs.declared.child.Child.{Child}
+use Rattle.lu_spec_machine.specs.Tree.{Tree, Inode, same_fid, fid_of, file, child}
+use Rattle.lu_spec_machine.specs.Footprint.{Operation, empty, changes, after, forget}
+use Rattle.lu_spec_machine.specs.Order.{IsOrdered}
+use Rattle.lu_spec_machine.specs.Trim.{trim}
+use Rattle.lu_spec_machine.proofs.Count.{named}
 
 -- the number of object storage targets, the greatest number that was used (that of the root at first), and
 -- the directories, files and opens

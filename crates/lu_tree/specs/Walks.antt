@@ -7,10 +7,10 @@ use Rattle.lu_part.specs.declared.bits.TheConstants.{LOOKUP}
 use Rattle.lu_part.specs.declared.parts.Want.{Want}
 use Rattle.lu_part.specs.declared.parts.Part.{Part}
 use Rattle.lu_part.specs.declared.parts.Part.TheVariants as part
-use Rattle.lu_machine.specs.declared.child.Child.{Child}
-use Rattle.lu_machine.specs.declared.child.Child.TheVariants.{Dir, File}
-use Rattle.lu_machine.specs.Name.{is_too_long}
-use Rattle.lu_machine.specs.Tree.{Tree, fid_of, child}
+use Rattle.lu_spec_machine.specs.declared.child.Child.{Child}
+use Rattle.lu_spec_machine.specs.declared.child.Child.TheVariants.{Dir, File}
+use Rattle.lu_spec_machine.specs.Name.{is_too_long}
+use Rattle.lu_spec_machine.specs.Tree.{Tree, fid_of, child}
 use Rattle.lu_tree.specs.declared.walks.Found.{Found}
 
 -- a name that is looked up in an inode: in a file there are none

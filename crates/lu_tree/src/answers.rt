@@ -1,16 +1,16 @@
 //! What is answered.
 
 ghost use Rattle.std.specs.Prelude.{◌≡◌, ℕ, IfOk};
-ghost use Rattle.lu_machine.specs.Table.{found};
-ghost use Rattle.lu_machine.specs.declared.child.Child.TheVariants.{File};
+ghost use Rattle.lu_spec_machine.specs.Table.{found};
+ghost use Rattle.lu_spec_machine.specs.declared.child.Child.TheVariants.{File};
 ghost use Rattle.lu_tree.specs.Ends.{told_of, stat_of, IsReached, Seen};
 ghost use Rattle.lu_tree.specs.State.{IsCounted};
 
 use super::ends::End;
 use super::inodes::Inodes;
 use lu_base::{Fid, Memory, Txn};
-use lu_machine::Child;
 use lu_msg::{Answer, Errno};
+use lu_spec_machine::Child;
 use std::alloc::Global;
 
 /// What a look-up tells.

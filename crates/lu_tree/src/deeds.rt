@@ -2,14 +2,14 @@
 
 ghost use Rattle.std.specs.Prelude.{◌≡◌, ◌+◌, ◌-◌, ◌<◌, ◌≤◌, true, false, None, Some, [], ◌∷◌, OnOk, OnErr};
 ghost use Rattle.std.specs.Map.{lookup};
-ghost use Rattle.lu_machine.specs.Footprint.{is_some_change};
-ghost use Rattle.lu_machine.specs.Tree.{child, fid_of, file as file_of, same_fid};
-ghost use Rattle.lu_machine.specs.Change.{Drops, Leads, MakesDir, MakesFile, Parted, SetLinks, change, changed};
-ghost use Rattle.lu_machine.proofs.Leads.{here};
-ghost use Rattle.lu_machine.specs.Order.{IsOrdered};
-ghost use Rattle.lu_machine.specs.declared.child.Child.TheVariants.{Dir as SpecDir, File as SpecFile};
-ghost use Rattle.lu_machine.specs.Table.{made_by};
-ghost use Rattle.lu_machine.specs.Trim.{trim};
+ghost use Rattle.lu_spec_machine.specs.Footprint.{is_some_change};
+ghost use Rattle.lu_spec_machine.specs.Tree.{child, fid_of, file as file_of, same_fid};
+ghost use Rattle.lu_spec_machine.specs.Change.{Drops, Leads, MakesDir, MakesFile, Parted, SetLinks, change, changed};
+ghost use Rattle.lu_spec_machine.proofs.Leads.{here};
+ghost use Rattle.lu_spec_machine.specs.Order.{IsOrdered};
+ghost use Rattle.lu_spec_machine.specs.declared.child.Child.TheVariants.{Dir as SpecDir, File as SpecFile};
+ghost use Rattle.lu_spec_machine.specs.Table.{made_by};
+ghost use Rattle.lu_spec_machine.specs.Trim.{trim};
 ghost use Rattle.lu_tree.specs.Ends.{changes_of, leaving, MayLeave, Seen, IsFresh};
 ghost use Rattle.lu_tree.specs.Lives.{IsThere};
 ghost use Rattle.lu_tree.specs.State.{IsCounted};
@@ -19,7 +19,7 @@ use super::inodes::Inodes;
 use super::striping::striped;
 use lu_base::{Duplicate, Fid, Memory, Txn, Who};
 use lu_layout::Layout;
-use lu_machine::Child;
+use lu_spec_machine::Child;
 use std::alloc::Global;
 
 impl Inodes {

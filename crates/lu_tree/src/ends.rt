@@ -3,14 +3,14 @@
 ghost use Rattle.std.specs.Prelude.{◌≡◌, ℕ, if◌then◌else◌};
 ghost use Rattle.lu_base.specs.declared.ids.Txn.{Txn as SpecTxn};
 ghost use Rattle.lu_base.specs.declared.ids.Who.{Who as SpecWho};
-ghost use Rattle.lu_machine.specs.Tree.{Tree};
-ghost use Rattle.lu_machine.specs.Footprint.{is_some_change};
+ghost use Rattle.lu_spec_machine.specs.Tree.{Tree};
+ghost use Rattle.lu_spec_machine.specs.Footprint.{is_some_change};
 ghost use Rattle.lu_tree.specs.Ends.{changes_of, bits_of};
 
 use lu_base::{Fid, Name, Txn};
-use lu_machine::Child;
 use lu_msg::Errno;
 use lu_part::{LAYOUT, UPDATE};
+use lu_spec_machine::Child;
 
 /// A name of a directory.
 #[derive(Clone, Copy)]

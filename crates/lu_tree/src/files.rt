@@ -1,9 +1,9 @@
 //! Files and opens as the program has them.
 
 ghost use Rattle.std.specs.Prelude.{◌≡◌, not, nat_lt, ◌==◌, ◌&&◌};
-ghost use Rattle.lu_machine.specs.Tree.{same_fid, same_life};
-ghost use Rattle.lu_machine.specs.Change.{new_file};
-ghost use Rattle.lu_machine.specs.Trim.{is_open, is_alive};
+ghost use Rattle.lu_spec_machine.specs.Tree.{same_fid, same_life};
+ghost use Rattle.lu_spec_machine.specs.Change.{new_file};
+ghost use Rattle.lu_spec_machine.specs.Trim.{is_open, is_alive};
 
 use lu_base::{Fid, Txn, Who};
 use lu_layout::Layout;
@@ -21,7 +21,7 @@ pub(crate) struct FileNode {
 }
 
 impl Model for FileNode {
-    ghost use Rattle.lu_machine.specs.Tree.{Inode};
+    ghost use Rattle.lu_spec_machine.specs.Tree.{Inode};
 
     ghost Value = { Inode };
 
@@ -92,7 +92,7 @@ pub(crate) struct OpenFile {
 }
 
 impl Model for OpenFile {
-    ghost use Rattle.lu_machine.specs.Tree.{Opened};
+    ghost use Rattle.lu_spec_machine.specs.Tree.{Opened};
 
     ghost Value = { Opened };
 

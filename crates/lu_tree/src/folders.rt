@@ -2,13 +2,13 @@
 
 ghost use Rattle.std.specs.Prelude.{◌≡◌, [], IsTrue, ◌↔◌, IfOk, OnOk, OnErr};
 ghost use Rattle.std.specs.Map.{keys_of, lookup};
-ghost use Rattle.lu_machine.specs.Name.{same_name};
-ghost use Rattle.lu_machine.specs.Entries.{without};
-ghost use Rattle.lu_machine.specs.Tree.{no_directory};
-ghost use Rattle.lu_machine.specs.Change.{new_directory, put_name};
+ghost use Rattle.lu_spec_machine.specs.Name.{same_name};
+ghost use Rattle.lu_spec_machine.specs.Entries.{without};
+ghost use Rattle.lu_spec_machine.specs.Tree.{no_directory};
+ghost use Rattle.lu_spec_machine.specs.Change.{new_directory, put_name};
 
 use lu_base::{Duplicate, Memory, Name, Names};
-use lu_machine::Child;
+use lu_spec_machine::Child;
 use std::alloc::Global;
 use std::collections::BTreeMap;
 use std::marker::Model;
@@ -25,8 +25,8 @@ pub(crate) struct Folder {
 
 impl Model for Folder {
     ghost use Rattle.std.specs.Map.{keys_of};
-    ghost use Rattle.lu_machine.specs.Tree.{Directory};
-    ghost use Rattle.lu_machine.specs.Order.{InByteOrder};
+    ghost use Rattle.lu_spec_machine.specs.Tree.{Directory};
+    ghost use Rattle.lu_spec_machine.specs.Order.{InByteOrder};
 
     ghost Value = { Directory };
 

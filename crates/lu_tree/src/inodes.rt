@@ -2,11 +2,11 @@
 
 ghost use Rattle.std.specs.Prelude.{◌≡◌, [], List, IsTrue, ◌↔◌, IsSome, IfOk, OnOk, OnErr};
 ghost use Rattle.std.specs.Map.{lookup};
-ghost use Rattle.lu_machine.specs.declared.child.Child.TheVariants.{Dir as SpecDir, File as SpecFile};
-ghost use Rattle.lu_machine.specs.Tree.{same_fid, attributes, child, directory, file, layout, listing};
-ghost use Rattle.lu_machine.specs.Change.{Leads, Drops, MakesDir, MakesFile, SetLinks, SetMode, Leaves, Opens, Closes, change};
-ghost use Rattle.lu_machine.specs.Footprint.{empty, forget};
-ghost use Rattle.lu_machine.specs.Trim.{trim};
+ghost use Rattle.lu_spec_machine.specs.declared.child.Child.TheVariants.{Dir as SpecDir, File as SpecFile};
+ghost use Rattle.lu_spec_machine.specs.Tree.{same_fid, attributes, child, directory, file, layout, listing};
+ghost use Rattle.lu_spec_machine.specs.Change.{Leads, Drops, MakesDir, MakesFile, SetLinks, SetMode, Leaves, Opens, Closes, change};
+ghost use Rattle.lu_spec_machine.specs.Footprint.{empty, forget};
+ghost use Rattle.lu_spec_machine.specs.Trim.{trim};
 ghost use Rattle.lu_tree.specs.Ends.{IsReached};
 ghost use Rattle.lu_tree.specs.Lives.{AreOthersLiving, IsThere, is_dead, opens_only, without_file};
 ghost use Rattle.lu_tree.specs.State.{IsCounted};
@@ -16,7 +16,7 @@ use super::folders::Folder;
 use super::walks::ROOT;
 use lu_base::{Fid, Memory, Name, Names, Txn, Who};
 use lu_layout::Layout;
-use lu_machine::Child;
+use lu_spec_machine::Child;
 use std::alloc::Global;
 use std::collections::BTreeMap;
 use std::marker::Model;
@@ -30,8 +30,8 @@ pub(crate) struct Inodes {
 }
 
 impl Model for Inodes {
-    ghost use Rattle.lu_machine.specs.Tree.{Tree};
-    ghost use Rattle.lu_machine.specs.Order.{IsOrdered};
+    ghost use Rattle.lu_spec_machine.specs.Tree.{Tree};
+    ghost use Rattle.lu_spec_machine.specs.Order.{IsOrdered};
 
     ghost Value = { Tree };
 

@@ -1,4 +1,4 @@
-//! The metadata target's tree of names in maps, equal to the plain tree of `lu_machine`.
+//! The metadata target's tree of names in maps, equal to the plain tree of `lu_spec_machine`.
 #![tactic(auto)]
 
 mod answers;

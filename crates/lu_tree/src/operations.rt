@@ -3,9 +3,9 @@
 ghost use Rattle.std.specs.Prelude.{◌≡◌, ◌++◌, ◌≤◌};
 ghost use Rattle.lu_base.specs.declared.ids.Txn.{Txn as SpecTxn};
 ghost use Rattle.lu_base.specs.declared.ids.Who.{Who as SpecWho};
-ghost use Rattle.lu_machine.specs.Footprint.{outcome_of};
-ghost use Rattle.lu_machine.specs.Footprint as footprint;
-ghost use Rattle.lu_machine.specs.Table.{root};
+ghost use Rattle.lu_spec_machine.specs.Footprint.{outcome_of};
+ghost use Rattle.lu_spec_machine.specs.Footprint as footprint;
+ghost use Rattle.lu_spec_machine.specs.Table.{root};
 ghost use Rattle.lu_tree.specs.Ends.{ended, looked_of, names_of, path_of, Seen};
 ghost use Rattle.lu_tree.specs.State.{asked};
 ghost use Rattle.lu_tree.specs.Walks.{trail};

@@ -4,11 +4,11 @@ ghost use Rattle.std.specs.Prelude.{◌≡◌, ◌++◌, ℕ, [], Some, false, L
 ghost use Rattle.lu_base.specs.declared.ids.Txn.{Txn as SpecTxn};
 ghost use Rattle.lu_base.specs.declared.ids.Who.{Who as SpecWho};
 ghost use Rattle.lu_msg.specs.declared.answers.Errno.TheVariants.{EBUSY as SpecBusy};
-ghost use Rattle.lu_machine.specs.declared.child.Child.{Child as SpecChild};
-ghost use Rattle.lu_machine.specs.declared.child.Child.TheVariants.{Dir as SpecDir};
-ghost use Rattle.lu_machine.specs.Plan.{outcome, looked};
-ghost use Rattle.lu_machine.specs.Table.{root, to_last, passes, row_replace, row_rename, rename};
-ghost use Rattle.lu_machine.specs.Tree.{child, fid_of, same_fid};
+ghost use Rattle.lu_spec_machine.specs.declared.child.Child.{Child as SpecChild};
+ghost use Rattle.lu_spec_machine.specs.declared.child.Child.TheVariants.{Dir as SpecDir};
+ghost use Rattle.lu_spec_machine.specs.Plan.{outcome, looked};
+ghost use Rattle.lu_spec_machine.specs.Table.{root, to_last, passes, row_replace, row_rename, rename};
+ghost use Rattle.lu_spec_machine.specs.Tree.{child, fid_of, same_fid};
 ghost use Rattle.lu_tree.specs.Ends.{ended, looked_of, rename_names, IsReached, Seen};
 ghost use Rattle.lu_tree.specs.Walks.{looks};
 
@@ -16,8 +16,8 @@ use super::ends::{End, Place};
 use super::inodes::Inodes;
 use super::walks::{Found, fid};
 use lu_base::Name;
-use lu_machine::Child;
 use lu_msg::Errno;
+use lu_spec_machine::Child;
 
 impl Inodes {
     /// The end where the new name leads to another inode.

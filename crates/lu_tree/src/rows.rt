@@ -3,12 +3,12 @@
 ghost use Rattle.std.specs.Prelude.{◌≡◌, ◌++◌, ℕ, ◌≤◌, [], Some, None, List as SpecList};
 ghost use Rattle.lu_base.specs.declared.ids.Txn.{Txn as SpecTxn};
 ghost use Rattle.lu_base.specs.declared.ids.Who.{Who as SpecWho};
-ghost use Rattle.lu_machine.specs.declared.child.Child.{Child as SpecChild};
-ghost use Rattle.lu_machine.specs.declared.child.Child.TheVariants.{Dir as SpecDir};
-ghost use Rattle.lu_machine.specs.Plan.{outcome, looked};
-ghost use Rattle.lu_machine.specs.Striping.{new_layout};
-ghost use Rattle.lu_machine.specs.Table.{root, walk, to_last, last_of, row_chmod, row_create, row_link, row_unlink, row_rmdir};
-ghost use Rattle.lu_machine.specs.Tree.{child};
+ghost use Rattle.lu_spec_machine.specs.declared.child.Child.{Child as SpecChild};
+ghost use Rattle.lu_spec_machine.specs.declared.child.Child.TheVariants.{Dir as SpecDir};
+ghost use Rattle.lu_spec_machine.specs.Plan.{outcome, looked};
+ghost use Rattle.lu_spec_machine.specs.Striping.{new_layout};
+ghost use Rattle.lu_spec_machine.specs.Table.{root, walk, to_last, last_of, row_chmod, row_create, row_link, row_unlink, row_rmdir};
+ghost use Rattle.lu_spec_machine.specs.Tree.{child};
 ghost use Rattle.lu_tree.specs.Ends.{ended, looked_of, names_after, IsReached, Seen};
 ghost use Rattle.lu_tree.specs.Rows.{row_of, last_row_of, no_last, IsAskable};
 ghost use Rattle.lu_tree.specs.Walks.{looks, reach, trail};
@@ -18,8 +18,8 @@ use super::inodes::Inodes;
 use super::striping::{is_bad, stripe_count, stripe_size};
 use super::walks::Found;
 use lu_base::{Fid, Name};
-use lu_machine::Child;
 use lu_msg::Errno;
+use lu_spec_machine::Child;
 
 /// What is asked of that to which a whole path leads.
 #[derive(Clone, Copy)]

@@ -2,7 +2,7 @@
 
 ghost use Rattle.std.specs.Prelude.{◌≡◌, ◌<◌, ◌≤◌, ℤ, take};
 ghost use Rattle.std.specs.List.{range_with_len};
-ghost use Rattle.lu_machine.specs.Striping.{is_bad, stripe_count, stripe_size, stripe_targets};
+ghost use Rattle.lu_spec_machine.specs.Striping.{is_bad, stripe_count, stripe_size, stripe_targets};
 ghost use Rattle.lu_tree.specs.Ends.{IsStriping, striped};
 
 use lu_base::Txn;

@@ -3,10 +3,10 @@
 ghost use Rattle.std.specs.Prelude.{◌≡◌, ◌++◌, ◌∷◌, [], ℕ, OnOk};
 ghost use Rattle.lu_base.specs.declared.ids.Txn.{Txn as SpecTxn};
 ghost use Rattle.lu_base.specs.declared.ids.Who.{Who as SpecWho};
-ghost use Rattle.lu_machine.specs.Change.{written};
-ghost use Rattle.lu_machine.specs.Tree.{Tree, fid_of};
+ghost use Rattle.lu_spec_machine.specs.Change.{written};
+ghost use Rattle.lu_spec_machine.specs.Tree.{Tree, fid_of};
 ghost use Rattle.lu_part.specs.declared.parts.Part.TheVariants.{Attr, Name as NamePart, Parent};
-ghost use Rattle.lu_machine.specs.Table.{root};
+ghost use Rattle.lu_spec_machine.specs.Table.{root};
 ghost use Rattle.lu_tree.specs.Ends.{changes_of, looked_at, looked_of, names_after, names_of, rename_names};
 ghost use Rattle.lu_tree.specs.Walks.{looks, reach};
 
@@ -14,9 +14,9 @@ use super::ends::{End, Place};
 use super::inodes::Inodes;
 use super::walks::fid;
 use lu_base::{Duplicate, Memory, Name};
-use lu_machine::Child;
 use lu_msg::Op;
 use lu_part::{Part, Parts};
+use lu_spec_machine::Child;
 use std::alloc::Global;
 
 impl Inodes {

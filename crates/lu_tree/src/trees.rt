@@ -2,7 +2,7 @@
 
 ghost use Rattle.std.specs.Prelude.{◌≡◌, ◌<◌, ◌≤◌, true, IfOk, OnOk, OnErr};
 ghost use Rattle.lu_base.specs.declared.ids.Txn.{Txn as SpecTxn};
-ghost use Rattle.lu_machine.specs.Footprint as footprint;
+ghost use Rattle.lu_spec_machine.specs.Footprint as footprint;
 ghost use Rattle.lu_tree.specs.State.{fresh, asked, performed, forgotten};
 
 use super::ends::{bits, changes, last_used};

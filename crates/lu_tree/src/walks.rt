@@ -1,15 +1,15 @@
 //! Walks by names.
 
 ghost use Rattle.std.specs.Prelude.{◌≡◌, ◌++◌, ◌<◌, Some, None, IfOk, OnOk};
-ghost use Rattle.lu_machine.specs.Table.{root, passes, wants};
-ghost use Rattle.lu_machine.specs.Tree.{fid_of};
+ghost use Rattle.lu_spec_machine.specs.Table.{root, passes, wants};
+ghost use Rattle.lu_spec_machine.specs.Tree.{fid_of};
 ghost use Rattle.lu_tree.specs.Walks.{find, if_found, reach, find_last, looks, trail, only, passed_wants};
 
 use super::inodes::Inodes;
 use lu_base::{Duplicate, Fid, Memory, Name};
-use lu_machine::Child;
 use lu_msg::Errno;
 use lu_part::{LOOKUP, Part, Parts, Want, Wants};
+use lu_spec_machine::Child;
 use std::alloc::Global;
 
 /// The number of the root.

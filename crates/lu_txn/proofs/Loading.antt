@@ -11,7 +11,8 @@ use Rattle.lu_msg.specs.Limits.{tag_count}
 use Rattle.lu_txn.specs.Slots.{lives_of, with_life, with_lives, without_life, without_lives, with_reply, with_replies}
 use Rattle.lu_txn.specs.Journals.{JournalState, IsSound}
 use Rattle.lu_txn.specs.Loads.{Stored, nothing, last_number, with_batch, stored_by, AreBelow}
-use Rattle.lu_txn.proofs.SlotLaws.{Before, lives-with_reply, rises-with_life, rises-without_life, tags-with_reply, tags-with_life, tags-without_life}
+use Rattle.lu_txn.proofs.SlotLaws.{Before, lives-with_reply, rises-with_life, rises-without_life, tags-with_reply, tags-with_life}
+use Rattle.lu_txn.proofs.SlotLaws.{tags-without_life}
 
 -- lives in order, each with its tags
 pub record IsTidy (slots : List Slot) : Type 0 where
@@ -60,22 +61,38 @@ tidy-stored [] stored tidy = tidy
 tidy-stored (batch ∷ batches) stored tidy = tidy-stored batches (with_batch stored batch) (tidy-with_batch stored batch tidy)
 
 -- numbers stay below a bound
-last_below : (bound number : ℕ) (transactions : List Transaction) → number ≤ bound → All (λ transaction. transaction.txn.0 < bound) transactions → last_number number transactions ≤ bound
+last_below : (bound number : ℕ) (transactions : List Transaction) → number ≤ bound
+    → All (λ transaction. transaction.txn.0 < bound) transactions → last_number number transactions ≤ bound
 last_below bound number [] below all = below
 last_below bound number (transaction ∷ transactions) below all =
     let this : transaction.txn.0 < bound = all 0 transaction (omega arith) in
     last_below bound transaction.txn.0 transactions (omega arith) (λ k d within. all (suc k) d (omega arith))
 
-stored_below : (boot : ℕ) (batches : List Batch) (stored : Stored) → stored.committed ≤ boot * 2 ^ 32 → AreBelow boot batches → (fold with_batch stored batches).committed ≤ boot * 2 ^ 32
+stored_below : (boot : ℕ) (batches : List Batch) (stored : Stored) → stored.committed ≤ boot * 2 ^ 32 → AreBelow boot batches
+    → (fold with_batch stored batches).committed ≤ boot * 2 ^ 32
 stored_below boot [] stored below all = below
 stored_below boot (batch ∷ batches) stored below all =
-    stored_below boot batches (with_batch stored batch) (last_below (boot * 2 ^ 32) stored.committed batch.transactions below (all 0 batch (omega arith))) (λ k d within. all (suc k) d (omega arith))
+    stored_below boot batches (with_batch stored batch) (last_below (boot * 2 ^ 32) stored.committed batch.transactions below
+    (all 0 batch (omega arith))) (λ k d within. all (suc k) d (omega arith))
 
 -- the journal of a boot over what batches tell
-pub sound_parts : (batches : List Batch) (boot committed : ℕ) (slots : List Slot) (gone added dropped removed : List Who) → record { committed = committed; slots = slots; removed = gone } ≡ stored_by batches → boot < 2 ^ 32 → AreBelow boot batches → IsSound (record { boot = boot; boot_stored = false; newest = committed; committed = committed; transactions = []; slots = slots; added = added; dropped = dropped; removed = removed })
+pub sound_parts : (batches : List Batch) (boot committed : ℕ) (slots : List Slot) (gone added dropped removed : List Who)
+    → record { committed = committed; slots = slots; removed = gone } ≡ stored_by batches → boot < 2 ^ 32 → AreBelow boot batches
+    → IsSound (record {
+      boot = boot;
+      boot_stored = false;
+      newest = committed;
+      committed = committed;
+      transactions = [];
+      slots = slots;
+      added = added;
+      dropped = dropped;
+      removed = removed;
+    })
 sound_parts batches boot committed slots gone added dropped removed told small all =
     let tidy : IsTidy slots = subst (λ (stored : Stored). IsTidy stored.slots) (sym told) (tidy-stored batches nothing tidy-nothing) in
-    let below : committed ≤ boot * 2 ^ 32 = subst (λ (stored : Stored). stored.committed ≤ boot * 2 ^ 32) (sym told) (stored_below boot batches nothing (omega arith) all) in
+    let below : committed ≤ boot * 2 ^ 32 = subst (λ (stored : Stored). stored.committed ≤ boot * 2 ^ 32) (sym told)
+    (stored_below boot batches nothing (omega arith) all) in
     record {
       boot = small;
       newest = omega (arith, below);

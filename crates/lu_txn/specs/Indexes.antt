@@ -1,10 +1,11 @@
 -- The places of transactions, by the buckets in which something that they wrote is filed. A place is counted from the
 -- first transaction that the journal ever had, so that it stays when earlier ones are committed. This is the code's own
 -- way to what was seen, and no part of what a caller sees.
-use Rattle.std.specs.Prelude.{◌≡◌, ℕ, ◌==◌, ◌+◌, ◌<◌, ◌≤◌, Bool, true, List, [], length, All, AllPairs, unwrap_or, slice_index_or}
+use Rattle.std.specs.Prelude.{◌≡◌, ℕ, ◌+◌, ◌<◌, ◌≤◌, Bool, true, List, [], length, All, AllPairs, unwrap_or, slice_index_or}
 use Rattle.std.specs.List.{list_any, flat_map}
 use Rattle.std.specs.HashMap.{get}
 use Rattle.lu_part.specs.declared.parts.Part.{Part}
+use Rattle.lu_part.specs.Places.{has}
 use Rattle.lu_txn.specs.declared.index.Bucket.{Bucket}
 use Rattle.lu_txn.specs.declared.index.Index.{Index}
 use Rattle.lu_txn.specs.declared.logs.Logged.{Logged}
@@ -14,10 +15,6 @@ use Rattle.lu_txn.specs.Buckets.{same_bucket, holds, filing, lookups}
 -- the places that are filed in a bucket
 abbrev pub places_of : Index → Bucket → List ℕ
 places_of index b = unwrap_or (get same_bucket index.buckets b) []
-
--- whether a list has a number
-abbrev pub has : List ℕ → ℕ → Bool
-has numbers n = list_any (λ m. m == n) numbers
 
 -- what was filed still is
 abbrev pub Grows : Index → Index → Type 0

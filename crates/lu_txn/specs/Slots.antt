@@ -1,6 +1,7 @@
 -- Reply slots: for each life that a target serves, and each tag from 0 to 7, the reply to the newest request
 -- (Lustre Operations Manual, recovery, and multiple modifying requests in flight with their tags).
-use Rattle.std.specs.Prelude.{◌≡◌, ℕ, ◌==◌, ◌&&◌, ◌||◌, nat_lt, ◌+◌, Bool, if◌then◌else◌, List, [], ◌∷◌, replicate, length, slice_set, slice_get, Option, Some, None, find, map, true, All, AllPairs}
+use Rattle.std.specs.Prelude.{◌≡◌, ℕ, ◌==◌, ◌&&◌, ◌||◌, nat_lt, ◌+◌, Bool, if◌then◌else◌, List, [], ◌∷◌, replicate, length, slice_set}
+use Rattle.std.specs.Prelude.{slice_get, Option, Some, None, find, map, true, All, AllPairs}
 use Rattle.std.specs.List.{list_any, fold, flat_map}
 use Rattle.std.specs.Map.{values_of}
 use Rattle.lu_base.specs.declared.ids.Who.{Who}

@@ -8,7 +8,8 @@ ghost use Rattle.std.specs.Option.{option_to_list};
 ghost use Rattle.lu_txn.specs.declared.index.Bucket.{Bucket};
 ghost use Rattle.lu_txn.specs.declared.index.Bucket.TheVariants as bucket;
 ghost use Rattle.lu_txn.specs.Buckets.{same_bucket, holds, filing, lookups};
-ghost use Rattle.lu_txn.specs.Indexes.{places_of, has, Grows, Keeps, files, gathered};
+ghost use Rattle.lu_part.specs.Places.{has};
+ghost use Rattle.lu_txn.specs.Indexes.{places_of, Grows, Keeps, files, gathered};
 
 use super::places::Places;
 use lu_base::{Fid, Memory, Name};

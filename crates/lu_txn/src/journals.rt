@@ -20,8 +20,6 @@ use lu_base::{Duplicate, Lives, Memory, Numbers, Txn, Who, Xid};
 use lu_msg::{Batch, Batches, Op, Reply, Transaction};
 use lu_part::Parts;
 use std::alloc::{AllocError, AllocFailed, Global};
-use std::error::Error;
-use std::fmt;
 use std::marker::Model;
 
 /// How many numbers a boot has: 2^32 - 1.
@@ -48,18 +46,6 @@ pub enum TxnError {
     /// Want of memory.
     Memory,
 }
-
-impl fmt::Display for TxnError {
-    fn fmt<W: fmt::Write>(&self, f: &mut fmt::Formatter<W>) -> fmt::Result {
-        match self {
-            TxnError::NumbersSpent => write!(f, "no transaction number is left in this boot"),
-            TxnError::NoSlot => write!(f, "the life has no slot"),
-            TxnError::Memory => write!(f, "out of memory"),
-        }
-    }
-}
-
-impl Error for TxnError {}
 
 impl From<Memory> for TxnError {
     ghost use Rattle.std.specs.Prelude.{◌≡◌};

@@ -1,7 +1,7 @@
 //! Places of transactions in the order in which they were filed.
 
 ghost use Rattle.std.specs.Prelude.{◌≡◌, ℕ, ◌<◌, true, [], ◌∷◌, ◌++◌, OnOk, OnErr};
-ghost use Rattle.lu_txn.specs.Indexes.{has};
+ghost use Rattle.lu_part.specs.Places.{has};
 
 use lu_base::Memory;
 use std::alloc::Global;

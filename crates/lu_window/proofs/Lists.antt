@@ -4,12 +4,12 @@ use Rattle.std.specs.List.{list_any}
 use Rattle.std.specs.Map.{keys_of}
 use Rattle.lu_base.specs.declared.ids.Who.{Who}
 use Rattle.lu_base.specs.declared.locks.Lock.{Lock}
-use Rattle.lu_words.specs.Carried.{Gone}
-use Rattle.lu_words.specs.Words.{same_life}
+use Rattle.lu_spec_entries.specs.Carried.{Gone}
+use Rattle.lu_spec_entries.specs.Words.{same_life}
 use Rattle.lu_replay.specs.declared.handed.Key.{Key}
 use Rattle.lu_replay.specs.declared.replays.ReplayBody.{ReplayBody}
-use Rattle.lu_target_rows.specs.Lives.{is_life, lives_of}
-use Rattle.lu_target_rows.specs.Windows.{Replayed, has_number, is_lost, lost_of, has_lost, staying}
+use Rattle.lu_spec_target.specs.Lives.{is_life, lives_of}
+use Rattle.lu_spec_target.specs.Windows.{Replayed, has_number, is_lost, lost_of, has_lost, staying}
 use Rattle.lu_window.specs.declared.brought.LockBody.{LockBody}
 use Rattle.lu_window.specs.declared.outcomes.Eviction.{Eviction}
 use Rattle.lu_window.specs.Shown.{replayed_of, lock_of, gone}
@@ -26,7 +26,8 @@ pub locks_staying : (evicted : List Eviction) (items : List (Key × LockBody))
     → map lock_of (filter (λ item. not (goes evicted item.0.who)) items) ≡ staying (map gone evicted) (map lock_of items)
 locks_staying evicted items =
     sym (filter_map lock_of (λ lock. not (is_life lock.ask.who (lives_of (map gone evicted)))) items
-    ∙ ap (map lock_of) (filter_same (λ item. not (is_life item.0.who (lives_of (map gone evicted)))) (λ item. not (goes evicted item.0.who)) items (λ item. ap not (left evicted item.0.who))))
+    ∙ ap (map lock_of) (filter_same (λ item. not (is_life item.0.who (lives_of (map gone evicted)))) (λ item. not (goes evicted item.0.who))
+    items (λ item. ap not (left evicted item.0.who))))
 
 abbrev key_lost : ℕ → List ℕ → Key → Bool
 key_lost committed kept key = nat_lt committed key.number && not (has_number key.number kept)
@@ -40,7 +41,8 @@ numbers_lost committed kept items =
     ∙ map_map replayed_of (λ r. r.number) (filter (λ item. key_lost committed kept item.0) items))
 
 pub one_lost : (committed : ℕ) (kept : List ℕ) (who : Who) (items : List (Key × ReplayBody))
-    → list_any (λ key. same_life key.who who && key_lost committed kept key) (keys_of items) ≡ has_lost committed kept (map replayed_of items) who
+    → list_any (λ key. same_life key.who who && key_lost committed kept key) (keys_of items)
+    ≡ has_lost committed kept (map replayed_of items) who
 one_lost committed kept who items =
     any_map (λ (item : Key × ReplayBody). item.0) (λ key. same_life key.who who && key_lost committed kept key) items
     ∙ sym (any_map replayed_of (λ r. same_life r.who who && is_lost committed kept r) items)

@@ -2,7 +2,7 @@
 use Rattle.std.proofs.Common.{◌≡◌, ℕ, Bool, true, false, cond, List, [], ◌∷◌, Option, Some, None, refl, ap, sym, ◌∙◌, arith, nat_eq, nat_lt}
 use Rattle.std.proofs.lemmas.Bool.Decides.{nat_tests}
 use Rattle.lu_base.specs.declared.ids.Who.{Who}
-use Rattle.lu_target_rows.specs.Windows.{with_wish, wish_of, is_after, is_newest}
+use Rattle.lu_spec_target.specs.Windows.{with_wish, wish_of, is_after, is_newest}
 
 -- once a wish came
 abbrev pub wished : Who → List Who → List Who
@@ -11,7 +11,8 @@ wished who wishes = cond (is_newest who wishes) (with_wish who wishes) wishes
 found : (a : Who) (ws : List Who) → wish_of a.client (with_wish a ws) ≡ Some a
 found a [] = grind (arith, nat_tests)
 found a (w ∷ ws) = by (nat_eq a.client w.client) refl (nat_lt a.client w.client) refl (found a ws) where
-  by : (same : Bool) → nat_eq a.client w.client ≡ same → (before : Bool) → nat_lt a.client w.client ≡ before → wish_of a.client (with_wish a ws) ≡ Some a
+  by : (same : Bool) → nat_eq a.client w.client ≡ same → (before : Bool) → nat_lt a.client w.client ≡ before
+      → wish_of a.client (with_wish a ws) ≡ Some a
       → wish_of a.client (cond same (a ∷ ws) (cond before (a ∷ w ∷ ws) (w ∷ with_wish a ws))) ≡ Some a
   by true e before f rest = grind (arith, nat_tests)
   by false e true f rest = grind (arith, nat_tests)
@@ -19,19 +20,22 @@ found a (w ∷ ws) = by (nat_eq a.client w.client) refl (nat_lt a.client w.clien
 
 apart : (a b : Who) (ws : List Who) → nat_eq b.client a.client ≡ false → wish_of a.client (with_wish b ws) ≡ wish_of a.client ws
 apart a b [] other = rw other refl
-apart a b (w ∷ ws) other = by (nat_eq b.client w.client) refl (nat_lt b.client w.client) (nat_eq w.client a.client) refl (apart a b ws other) where
-  by : (same : Bool) → nat_eq b.client w.client ≡ same → (before : Bool) → (here : Bool) → nat_eq w.client a.client ≡ here → wish_of a.client (with_wish b ws) ≡ wish_of a.client ws
-      → wish_of a.client (cond same (b ∷ ws) (cond before (b ∷ w ∷ ws) (w ∷ with_wish b ws))) ≡ wish_of a.client (w ∷ ws)
-  by true e before true f rest = absurd (grind (arith, nat_tests))
-  by true e before false f rest = rw (other, f) refl
-  by false e true here f rest = rw other refl
-  by false e false true f rest = rw f refl
-  by false e false false f rest = rw f rest
+apart a b (w ∷ ws) other = by (nat_eq b.client w.client) refl (nat_lt b.client w.client) (nat_eq w.client a.client) refl
+    (apart a b ws other) where
+      by : (same : Bool) → nat_eq b.client w.client ≡ same → (before : Bool) → (here : Bool) → nat_eq w.client a.client ≡ here
+          → wish_of a.client (with_wish b ws) ≡ wish_of a.client ws
+          → wish_of a.client (cond same (b ∷ ws) (cond before (b ∷ w ∷ ws) (w ∷ with_wish b ws))) ≡ wish_of a.client (w ∷ ws)
+      by true e before true f rest = absurd (grind (arith, nat_tests))
+      by true e before false f rest = rw (other, f) refl
+      by false e true here f rest = rw other refl
+      by false e false true f rest = rw f refl
+      by false e false false f rest = rw f rest
 
 over : (a b : Who) (ws : List Who) → nat_eq a.client b.client ≡ true → with_wish a (with_wish b ws) ≡ with_wish a ws
 over a b [] same = rw same refl
 over a b (w ∷ ws) same = by (nat_eq b.client w.client) refl (nat_lt b.client w.client) refl (over a b ws same) where
-  by : (here : Bool) → nat_eq b.client w.client ≡ here → (before : Bool) → nat_lt b.client w.client ≡ before → with_wish a (with_wish b ws) ≡ with_wish a ws
+  by : (here : Bool) → nat_eq b.client w.client ≡ here → (before : Bool) → nat_lt b.client w.client ≡ before → with_wish a (with_wish b ws)
+      ≡ with_wish a ws
       → with_wish a (cond here (b ∷ ws) (cond before (b ∷ w ∷ ws) (w ∷ with_wish b ws))) ≡ with_wish a (w ∷ ws)
   by true e before f rest = let here : nat_eq a.client w.client ≡ true = grind (arith, nat_tests) in rw (same, here) refl
   by false e true f rest =
@@ -49,29 +53,31 @@ swapped a b [] less =
     let other : nat_eq b.client a.client ≡ false = grind (arith, nat_tests) in
     let back : nat_lt b.client a.client ≡ false = grind (arith, nat_tests) in
     rw (one, less, other, back) refl
-swapped a b (w ∷ ws) less = by (nat_eq b.client w.client) refl (nat_lt b.client w.client) refl (nat_eq a.client w.client) refl (nat_lt a.client w.client) refl (swapped a b ws less) where
-  one : nat_eq a.client b.client ≡ false
-  one = grind (arith, nat_tests)
+swapped a b (w ∷ ws) less = by (nat_eq b.client w.client) refl (nat_lt b.client w.client) refl (nat_eq a.client w.client) refl
+    (nat_lt a.client w.client) refl (swapped a b ws less) where
+      one : nat_eq a.client b.client ≡ false
+      one = grind (arith, nat_tests)
 
-  other : nat_eq b.client a.client ≡ false
-  other = grind (arith, nat_tests)
+      other : nat_eq b.client a.client ≡ false
+      other = grind (arith, nat_tests)
 
-  back : nat_lt b.client a.client ≡ false
-  back = grind (arith, nat_tests)
+      back : nat_lt b.client a.client ≡ false
+      back = grind (arith, nat_tests)
 
-  by : (here : Bool) → nat_eq b.client w.client ≡ here → (before : Bool) → nat_lt b.client w.client ≡ before
-      → (there : Bool) → nat_eq a.client w.client ≡ there → (ahead : Bool) → nat_lt a.client w.client ≡ ahead
-      → with_wish a (with_wish b ws) ≡ with_wish b (with_wish a ws)
-      → with_wish a (cond here (b ∷ ws) (cond before (b ∷ w ∷ ws) (w ∷ with_wish b ws))) ≡ with_wish b (cond there (a ∷ ws) (cond ahead (a ∷ w ∷ ws) (w ∷ with_wish a ws)))
-  by true e before f true g ahead h rest = absurd (grind (arith, nat_tests))
-  by true e before f false g true h rest = rw (one, less, other, back, e) refl
-  by true e before f false g false h rest = absurd (grind (arith, nat_tests))
-  by false e true f true g ahead h rest = absurd (grind (arith, nat_tests))
-  by false e true f false g true h rest = rw (one, less, other, back, e, f) refl
-  by false e true f false g false h rest = absurd (grind (arith, nat_tests))
-  by false e false f true g ahead h rest = rw (g, other, back) refl
-  by false e false f false g true h rest = rw (g, h, other, back, e, f) refl
-  by false e false f false g false h rest = rw (g, h, e, f) (ap (λ more. w ∷ more) rest)
+      by : (here : Bool) → nat_eq b.client w.client ≡ here → (before : Bool) → nat_lt b.client w.client ≡ before
+          → (there : Bool) → nat_eq a.client w.client ≡ there → (ahead : Bool) → nat_lt a.client w.client ≡ ahead
+          → with_wish a (with_wish b ws) ≡ with_wish b (with_wish a ws)
+          → with_wish a (cond here (b ∷ ws) (cond before (b ∷ w ∷ ws) (w ∷ with_wish b ws)))
+          ≡ with_wish b (cond there (a ∷ ws) (cond ahead (a ∷ w ∷ ws) (w ∷ with_wish a ws)))
+      by true e before f true g ahead h rest = absurd (grind (arith, nat_tests))
+      by true e before f false g true h rest = rw (one, less, other, back, e) refl
+      by true e before f false g false h rest = absurd (grind (arith, nat_tests))
+      by false e true f true g ahead h rest = absurd (grind (arith, nat_tests))
+      by false e true f false g true h rest = rw (one, less, other, back, e, f) refl
+      by false e true f false g false h rest = absurd (grind (arith, nat_tests))
+      by false e false f true g ahead h rest = rw (g, other, back) refl
+      by false e false f false g true h rest = rw (g, h, other, back, e, f) refl
+      by false e false f false g false h rest = rw (g, h, e, f) (ap (λ more. w ∷ more) rest)
 
 -- two of different clients
 two : (a b : Who) (ws : List Who) → nat_eq a.client b.client ≡ false → with_wish a (with_wish b ws) ≡ with_wish b (with_wish a ws)

@@ -2,8 +2,8 @@
 use Rattle.std.specs.Prelude.{◌≡◌, ⊤, ◌⊎◌, true, List, [], ◌∷◌}
 use Rattle.lu_base.specs.declared.ids.Who.{Who}
 use Rattle.lu_base.specs.declared.locks.Lock.{Lock}
-use Rattle.lu_words.specs.Carried.{Said}
-use Rattle.lu_target_rows.specs.Windows.{Replayed, Window, is_replay, is_lock, is_word}
+use Rattle.lu_spec_entries.specs.Carried.{Said}
+use Rattle.lu_spec_target.specs.Windows.{Replayed, Window, is_replay, is_lock, is_word}
 use Rattle.lu_window.specs.States.{took_replay, took_lock, took_word, took_wish}
 
 -- One thing that a window takes: a replay, a lock, a word, a wish to join.

@@ -5,8 +5,8 @@ use Rattle.lu_base.specs.declared.locks.Lock.{Lock}
 use Rattle.lu_replay.specs.declared.handed.Key.{Key}
 use Rattle.lu_replay.specs.declared.replays.Replay.{Replay}
 use Rattle.lu_replay.specs.declared.replays.ReplayBody.{ReplayBody}
-use Rattle.lu_words.specs.Carried.{Said, Gone}
-use Rattle.lu_target_rows.specs.Windows.{Replayed}
+use Rattle.lu_spec_entries.specs.Carried.{Said, Gone}
+use Rattle.lu_spec_target.specs.Windows.{Replayed}
 use Rattle.lu_window.specs.declared.brought.LockBody.{LockBody}
 use Rattle.lu_window.specs.declared.outcomes.Eviction.{Eviction}
 use Rattle.lu_window.specs.declared.outcomes.KeptReplay.{KeptReplay}

@@ -5,9 +5,10 @@ use Rattle.lu_base.specs.declared.ids.Who.{Who}
 use Rattle.lu_base.specs.declared.locks.Cause.{Cause}
 use Rattle.lu_base.specs.declared.locks.Cause.TheVariants.{Absent, Gap}
 use Rattle.lu_base.specs.declared.locks.Lock.{Lock}
-use Rattle.lu_words.specs.Carried.{Said}
-use Rattle.lu_target_rows.specs.Lives.{with_lives}
-use Rattle.lu_target_rows.specs.Windows.{Replayed, Window, with_replay, with_brought, with_word, with_wish, cut_seen, is_replay, is_lock, is_word, is_newest, is_back, is_left, has_gap}
+use Rattle.lu_spec_entries.specs.Carried.{Said}
+use Rattle.lu_spec_target.specs.Lives.{with_lives}
+use Rattle.lu_spec_target.specs.Windows.{Replayed, Window, with_replay, with_brought, with_word, with_wish, cut_seen, is_replay, is_lock}
+use Rattle.lu_spec_target.specs.Windows.{is_word, is_newest, is_back, is_left, has_gap}
 
 -- What the window has, and whether it is closed.
 pub record State : Type 0 where

@@ -2,8 +2,8 @@
 
 ghost use Rattle.std.specs.Prelude.{◌≡◌, not, if◌then◌else◌, [], length, filter, map, IfOk, OnOk, OnErr};
 ghost use Rattle.std.specs.List.{list_any};
-ghost use Rattle.lu_target_rows.specs.Windows.{is_lock, with_brought, staying};
-ghost use Rattle.lu_words.specs.Words.{same_life};
+ghost use Rattle.lu_spec_target.specs.Windows.{is_lock, with_brought, staying};
+ghost use Rattle.lu_spec_entries.specs.Words.{same_life};
 ghost use Rattle.lu_window.specs.Shown.{gone, lock_of};
 
 use super::outcomes::Eviction;

@@ -2,7 +2,7 @@
 
 ghost use Rattle.std.specs.Prelude.{◌≡◌, ◌==◌, ◌&&◌, nat_lt, [], IfOk};
 ghost use Rattle.std.specs.List.{list_any};
-ghost use Rattle.lu_target_rows.specs.Lives.{is_life, with_lives};
+ghost use Rattle.lu_spec_target.specs.Lives.{is_life, with_lives};
 
 use lu_base::{Memory, Who};
 use std::alloc::Global;

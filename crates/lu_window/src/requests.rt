@@ -3,9 +3,9 @@
 ghost use Rattle.std.specs.Prelude.{◌≡◌, ◌&&◌, not, nat_lt, if◌then◌else◌, [], length, filter, map, IfOk, OnOk, OnErr};
 ghost use Rattle.std.specs.List.{list_any};
 ghost use Rattle.std.specs.Map.{keys_of};
-ghost use Rattle.lu_target_rows.specs.Windows.{cut_seen, is_replay, with_replay, has_number, misses, kept_of, lost_of, has_lost};
+ghost use Rattle.lu_spec_target.specs.Windows.{cut_seen, is_replay, with_replay, has_number, misses, kept_of, lost_of, has_lost};
 ghost use Rattle.lu_base.specs.declared.ids.Who.{Who};
-ghost use Rattle.lu_words.specs.Words.{same_life};
+ghost use Rattle.lu_spec_entries.specs.Words.{same_life};
 ghost use Rattle.lu_window.specs.Shown.{replayed, replayed_of, kept_replay};
 
 use super::outcomes::{KeptReplay, KeptReplays};
@@ -101,7 +101,7 @@ pub(crate) struct Requests {
 
 impl Model for Requests {
     ghost use Rattle.std.specs.Prelude.{List, map};
-    ghost use Rattle.lu_target_rows.specs.Windows.{Replayed};
+    ghost use Rattle.lu_spec_target.specs.Windows.{Replayed};
     ghost use Rattle.lu_window.specs.Shown.{replayed_of};
 
     ghost Value = { List Replayed };

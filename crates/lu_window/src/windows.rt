@@ -2,9 +2,9 @@
 //! evicted).
 
 ghost use Rattle.std.specs.Prelude.{◌≡◌, ◌&&◌, ◌||◌, not, true, false, if◌then◌else◌, ◌↔◌, ◌≢◌, ℕ, [], map, IfOk, OnOk, OnErr, Err};
-ghost use Rattle.lu_words.specs.Carried.{Said};
-ghost use Rattle.lu_target_rows.specs.Lives.{is_life};
-ghost use Rattle.lu_target_rows.specs.Windows.{is_back, is_left, all_settled, is_kept, kept_numbers, has_number, has_gap, gone_from, settled};
+ghost use Rattle.lu_spec_entries.specs.Carried.{Said};
+ghost use Rattle.lu_spec_target.specs.Lives.{is_life};
+ghost use Rattle.lu_spec_target.specs.Windows.{is_back, is_left, all_settled, is_kept, kept_numbers, has_number, has_gap, gone_from, settled};
 ghost use Rattle.lu_window.specs.Shown.{replayed, replayed_of, said, kept_replay, gone};
 ghost use Rattle.lu_window.specs.States.{opened, at_window, with_replays, cause_of, took_replay, took_lock, took_word, took_wish, has_older};
 ghost use Rattle.lu_window.specs.declared.windows.WindowError.TheVariants as error;
@@ -19,8 +19,6 @@ use lu_base::{Cause, Lock, Memory, Numbers, Txn, Who};
 use lu_replay::{Key, Replay, ReplayBody};
 use std::alloc::{AllocFailed, Global};
 use std::collections::BTreeSet;
-use std::error::Error;
-use std::fmt;
 use std::marker::Model;
 
 /// Why a window didn't take something. It is as it was.
@@ -33,18 +31,6 @@ pub enum WindowError {
     /// Want of memory.
     Memory,
 }
-
-impl fmt::Display for WindowError {
-    fn fmt<W: fmt::Write>(&self, f: &mut fmt::Formatter<W>) -> fmt::Result {
-        match self {
-            WindowError::Unknown => write!(f, "the life has no slot"),
-            WindowError::Late => write!(f, "the recovery window is closed"),
-            WindowError::Memory => write!(f, "out of memory"),
-        }
-    }
-}
-
-impl Error for WindowError {}
 
 impl From<Memory> for WindowError {
     ghost use Rattle.std.specs.Prelude.{◌≡◌};

@@ -3,7 +3,7 @@
 ghost use Rattle.std.specs.Prelude.{◌≡◌, ◌==◌, if◌then◌else◌, [], map, IfOk, OnOk, OnErr};
 ghost use Rattle.std.specs.List.{list_any};
 ghost use Rattle.lu_window.specs.Shown.{wish};
-ghost use Rattle.lu_target_rows.specs.Windows.{is_newest, with_wish};
+ghost use Rattle.lu_spec_target.specs.Windows.{is_newest, with_wish};
 
 use lu_base::{Lives, Memory, Who};
 use std::alloc::{AllocError, Global};

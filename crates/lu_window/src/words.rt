@@ -3,8 +3,8 @@
 ghost use Rattle.std.specs.Prelude.{◌≡◌, ◌&&◌, nat_le, false, [], option_map, OnOk, OnErr};
 ghost use Rattle.std.specs.List.{list_any};
 ghost use Rattle.std.specs.Option.{option_copied};
-ghost use Rattle.lu_words.specs.Words.{same_life};
-ghost use Rattle.lu_target_rows.specs.Windows.{word_of, with_word};
+ghost use Rattle.lu_spec_entries.specs.Words.{same_life};
+ghost use Rattle.lu_spec_target.specs.Windows.{word_of, with_word};
 ghost use Rattle.lu_window.specs.Shown.{said};
 
 use lu_base::{Memory, Numbers, Who};
@@ -38,7 +38,7 @@ pub(crate) struct Words {
 
 impl Model for Words {
     ghost use Rattle.std.specs.Prelude.{List, map};
-    ghost use Rattle.lu_words.specs.Carried.{Said};
+    ghost use Rattle.lu_spec_entries.specs.Carried.{Said};
     ghost use Rattle.lu_window.specs.Shown.{said_of};
 
     ghost Value = { List Said };

@@ -9,7 +9,10 @@ pub returns : goal.returns
 returns c =
     let parts = c.args.parts.now in record {
       test = (
-        λ yes. (omega (arith, length-map parts (λ part. part.now)), All-map IsName (λ part. part.now) parts (c.all_are_names.ensures.test.0 yes)),
+        λ yes. (
+          omega (arith, length-map parts (λ part. part.now)),
+          All-map IsName (λ part. part.now) parts (c.all_are_names.ensures.test.0 yes),
+        ),
         λ are. c.all_are_names.ensures.test.1 (All-of_map IsName (λ part. part.now) parts are.1),
       );
     }

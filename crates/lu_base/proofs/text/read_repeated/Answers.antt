@@ -2,7 +2,8 @@ use Rattle.std.proofs.Common.{◌≡◌, arith, sym, ◌∙◌}
 use Rattle.std.proofs.lemmas.Fmt.{decimal_injective}
 use Rattle.lu_base.proofs.Digits.{parts_of}
 use Rattle.lu_base.proofs.text.read_repeated.Goals as goal
-use Rattle.lu_base.proofs.text.read_repeated.Goals.{then-count-eq0-via-then-count-eq0, then-count-eq0-via-else-count-eq0+then-count-gt-MOST_REPEATS}
+use Rattle.lu_base.proofs.text.read_repeated.Goals.{then-count-eq0-via-then-count-eq0}
+use Rattle.lu_base.proofs.text.read_repeated.Goals.{then-count-eq0-via-else-count-eq0+then-count-gt-MOST_REPEATS}
 
 pub returns-in_default-clause-none : goal.returns-in_default-clause-none
 returns-in_default-clause-none c = λ bytes (byte, count, small, one, most, is, _).

@@ -8,5 +8,6 @@ pub returns : goal.returns
 returns c = record {
   parts =
       map_from_collect {E = AllocError} (Ok c.in_ok-parts.parts) c.in_ok-parts.ensures.ran
-      (YieldsList-from_slice_split _ (λ byte. byte == c.args.separator) c.args.text.now c.split.ensures.rest c.split.ensures.done c.split.ensures.closure (λ x q k. search rules));
+      (YieldsList-from_slice_split _ (λ byte. byte == c.args.separator) c.args.text.now c.split.ensures.rest c.split.ensures.done
+      c.split.ensures.closure (λ x q k. search rules));
 }

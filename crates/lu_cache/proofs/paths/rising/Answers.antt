@@ -20,4 +20,7 @@ returns c =
     let items = c.loop-cookie.cookies.items in
     let left : c.pop.new.self.items ≡ [] = c.in_default.ensures.rest ∙ ap (λ (n : ℕ). take (n - 1) items) c.in_default.ensures.cases.0 in
     let none : items ≡ [] = c.in_default.ensures.items ∙ ap (λ (xs : List Cookie). xs ++ []) left in
-    record { rising = if_ok c.listed.result (λ locks same. same ∙ sym (ap (λ (xs : List Cookie). upon xs keys) none) ∙ c.loop-cookie.invariant ∙ all_upon c.args.cookies.items) c.listed.ensures.same }
+    record {
+      rising = if_ok c.listed.result (λ locks same. same ∙ sym (ap (λ (xs : List Cookie). upon xs keys) none)
+          ∙ c.loop-cookie.invariant ∙ all_upon c.args.cookies.items) c.listed.ensures.same;
+    }

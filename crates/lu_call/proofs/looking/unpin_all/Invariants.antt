@@ -1,5 +1,5 @@
 use Rattle.std.proofs.Common.{◌≡◌, drop}
-use Rattle.lu_client_rows.specs.Advances.{unpins}
+use Rattle.lu_spec_client.specs.Advances.{unpins}
 use Rattle.lu_client_store.specs.Stored.{stored_turn}
 use Rattle.lu_call.proofs.looking.unpin_all.Given as goal
 

@@ -1,6 +1,6 @@
 use Rattle.std.proofs.Common.{◌≡◌}
 use Rattle.std.specs.List.{range_with_len}
-use Rattle.lu_client_rows.specs.Wants.{wants_on}
+use Rattle.lu_spec_client.specs.Wants.{wants_on}
 use Rattle.lu_call.specs.Views.{kind_of}
 use Rattle.lu_call.proofs.wants.wants_of.Given as goal
 

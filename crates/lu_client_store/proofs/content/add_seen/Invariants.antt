@@ -2,7 +2,7 @@
 use Rattle.std.proofs.Common.{◌≡◌, ◌+◌, ◌++◌, drop}
 use Rattle.std.specs.Prelude.{unwrap_or}
 use Rattle.std.specs.Option.{option_copied}
-use Rattle.lu_client_rows.specs.Patches.{clean}
+use Rattle.lu_spec_client.specs.Patches.{clean}
 use Rattle.lu_client_store.specs.Runs.{seen_run}
 use Rattle.lu_client_store.proofs.content.add_seen.Given as goal
 

@@ -2,8 +2,8 @@
 use Rattle.std.proofs.Common.{◌≡◌, ◌+◌, ◌-◌, []}
 use Rattle.std.specs.Prelude.{unwrap_or}
 use Rattle.std.specs.Option.{option_copied}
-use Rattle.lu_client_rows.specs.Patches.{clean}
-use Rattle.lu_client_rows.specs.Looks.{first_missing}
+use Rattle.lu_spec_client.specs.Patches.{clean}
+use Rattle.lu_spec_client.specs.Looks.{first_missing}
 use Rattle.lu_client_store.proofs.pages.first_missing.Given as goal
 
 abbrev pub invariant-loop-k : goal.invariant-loop-k

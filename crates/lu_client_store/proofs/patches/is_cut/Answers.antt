@@ -1,6 +1,6 @@
 -- At its size a patch has no byte: what is read there is the cut's 0, or isn't known.
 use Rattle.std.proofs.Common.{ℕ, Option, None, is_some, ◌∙◌, ap}
-use Rattle.lu_client_rows.specs.Patches.{reads_at}
+use Rattle.lu_spec_client.specs.Patches.{reads_at}
 use Rattle.lu_client_store.proofs.Patched.{cut_seen}
 use Rattle.lu_client_store.proofs.patches.is_cut.Goals as goal
 

@@ -9,9 +9,11 @@ loop-i-preserved c = elim c.if-place-stripe.branch [
       w.run-is
       ∙ w.in_ok-push.ensures.added
       ∙ ap (λ xs. xs ++ get_or c.args.bytes.now c.loop-i.i 0 ∷ []) c.loop-i.invariant
-      ∙ sym (picks_on c.args.layout.now c.args.stripe c.args.position c.loop-i.i c.args.bytes.now (omega (arith, c.loop-i-test.true)) (sym c.place.ensures.stripe ∙ w.if-place-stripe.true))
+      ∙ sym (picks_on c.args.layout.now c.args.stripe c.args.position c.loop-i.i c.args.bytes.now (omega (arith, c.loop-i-test.true))
+      (sym c.place.ensures.stripe ∙ w.if-place-stripe.true))
   | else-place-stripe w ↦
       w.run-is
       ∙ c.loop-i.invariant
-      ∙ sym (picks_not c.args.layout.now c.args.stripe c.args.position c.loop-i.i c.args.bytes.now (omega (arith, c.loop-i-test.true)) (λ e. w.if-place-stripe.false (c.place.ensures.stripe ∙ e)))
+      ∙ sym (picks_not c.args.layout.now c.args.stripe c.args.position c.loop-i.i c.args.bytes.now (omega (arith, c.loop-i-test.true))
+      (λ e. w.if-place-stripe.false (c.place.ensures.stripe ∙ e)))
 ]

@@ -11,4 +11,6 @@ pub returns : goal.returns
 returns c =
     c.copied.ensures
     ∙ nth_from_yields_List c.nth.result c.nth.new.self c.args.at c.nth.ensures.ran
-    (YieldsList-from_filter _ (is_asked c.args.wanted c.args.uses.now.entries) (YieldsList-from_slice c.args.names.now (ap iter_rest c.filter.ensures.source ∙ c.iter.ensures.rest)) c.filter.ensures.closure (λ x b q k. search (rules, tests)))
+    (YieldsList-from_filter _ (is_asked c.args.wanted c.args.uses.now.entries)
+    (YieldsList-from_slice c.args.names.now (ap iter_rest c.filter.ensures.source ∙ c.iter.ensures.rest)) c.filter.ensures.closure
+    (λ x b q k. search (rules, tests)))

@@ -9,4 +9,6 @@ pub returns : goal.returns
 returns c =
     c.copied.ensures
     ∙ nth_from_yields_List c.nth.result c.nth.new.self c.args.at c.nth.ensures.ran
-    (YieldsList-from_filter _ (is_asked c.args.wanted c.args.uses.now.entries) (YieldsList-from_rest (names_for c.args.wanted c.args.names.now.keys) (c.filter.ensures.source ∙ c.names_for.ensures)) c.filter.ensures.closure (λ x b q k. search (rules, tests)))
+    (YieldsList-from_filter _ (is_asked c.args.wanted c.args.uses.now.entries)
+    (YieldsList-from_rest (names_for c.args.wanted c.args.names.now.keys) (c.filter.ensures.source ∙ c.names_for.ensures))
+    c.filter.ensures.closure (λ x b q k. search (rules, tests)))

@@ -9,4 +9,5 @@ use Rattle.lu_held.proofs.held.place_of.Goals as goal
 pub returns-clause-place : goal.returns-clause-place
 returns-clause-place c =
     placed c.args.name c.args.names.now c.partition_point.result c.partition_point.ensures.bound
-    (IsPartitionPoint-from_clause (λ other. is_before other c.args.name) c.args.names.now c.partition_point.result c.partition_point.ensures.partitioned (parted c.args.name c.args.names.now c.requires.order) (λ a r f k. search (rules, tests)))
+    (IsPartitionPoint-from_clause (λ other. is_before other c.args.name) c.args.names.now c.partition_point.result
+    c.partition_point.ensures.partitioned (parted c.args.name c.args.names.now c.requires.order) (λ a r f k. search (rules, tests)))

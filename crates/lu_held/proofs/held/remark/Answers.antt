@@ -7,5 +7,6 @@ use Rattle.lu_held.proofs.held.remark.Goals as goal
 
 pub returns-in-true-false-clause-names : goal.returns-in-true-false-clause-names
 returns-in-true-false-clause-names c =
-    let left : c.retain.new.self.items ≡ filter (others c.args.name) c.args.marked.now.items = filter_same _ (others c.args.name) _ (λ x b q k. search (rules, tests)) _ _ c.retain.ensures.filtered in
+    let left : c.retain.new.self.items ≡ filter (others c.args.name) c.args.marked.now.items =
+    filter_same _ (others c.args.name) _ (λ x b q k. search (rules, tests)) _ _ c.retain.ensures.filtered in
     rw (c.in-true-false.is-0, c.in-true-false.is-1) left

@@ -1,6 +1,6 @@
 use Rattle.std.proofs.Common.{◌≡◌, ◌≤◌, ◌-◌, length, drop}
-use Rattle.lu_laws.specs.Words.Later.{told_later}
-use Rattle.lu_judge.specs.Places.{InOrder}
+use Rattle.lu_spec_laws.specs.Words.Later.{told_later}
+use Rattle.lu_judge_pass.specs.Places.{InOrder}
 use Rattle.lu_judge_acts.proofs.answers.told_later.Given as goal
 
 abbrev pub invariant-loop-place : goal.invariant-loop-place

@@ -8,7 +8,8 @@ returns-then-is_of_number c =
     let below : c.loop-place.place < length c.args.flight.now = omega arith in
     record {
       number =
-          any_found (λ (r : Request). r.xid.0 == c.args.xid.0) (λ (r : Bor Request). r.now) c.args.flight.now c.loop-place.place c.index-flight-place.result below (sym c.index-flight-place.is)
+          any_found (λ (r : Request). r.xid.0 == c.args.xid.0) (λ (r : Bor Request). r.now) c.args.flight.now c.loop-place.place
+          c.index-flight-place.result below (sym c.index-flight-place.is)
           c.is_of_number.result c.is_of_number.ensures.number c.if-is_of_number.true c.loop-place.invariant.none;
     }
 
@@ -18,9 +19,13 @@ loop-place-preserved c =
     record {
       within = omega arith;
       none =
-          any_passed (λ (r : Request). r.xid.0 == c.args.xid.0) (λ (r : Bor Request). r.now) c.args.flight.now c.loop-place.place c.index-flight-place.result below (sym c.index-flight-place.is)
+          any_passed (λ (r : Request). r.xid.0 == c.args.xid.0) (λ (r : Bor Request). r.now) c.args.flight.now c.loop-place.place
+          c.index-flight-place.result below (sym c.index-flight-place.is)
           c.is_of_number.result c.is_of_number.ensures.number c.if-is_of_number.false c.loop-place.invariant.none;
     }
 
 pub returns : goal.returns
-returns c = record { number = any_ended (λ (r : Request). r.xid.0 == c.args.xid.0) (λ (r : Bor Request). r.now) c.args.flight.now c.loop-place.place (omega arith) c.loop-place.invariant.none }
+returns c = record {
+  number = any_ended (λ (r : Request). r.xid.0 == c.args.xid.0) (λ (r : Bor Request). r.now) c.args.flight.now
+      c.loop-place.place (omega arith) c.loop-place.invariant.none;
+}

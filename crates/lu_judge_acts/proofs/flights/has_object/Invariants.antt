@@ -1,13 +1,14 @@
 use Rattle.std.proofs.Common.{◌≡◌, ◌≤◌, ◌-◌, Bor, length, drop, map}
 use Rattle.std.specs.List.{list_any}
 use Rattle.lu_msg.specs.declared.messages.Request.{Request}
-use Rattle.lu_laws.specs.Words.Requests.{same_object}
+use Rattle.lu_spec_laws.specs.Words.Requests.{same_object}
 use Rattle.lu_judge_acts.proofs.flights.has_object.Given as goal
 
 abbrev pub invariant-loop-place : goal.invariant-loop-place
 invariant-loop-place l = record {
   within : l.place ≤ length l.flight;
-  none : list_any (same_object l.request) (map (λ (r : Bor Request). r.now) l.flight) ≡ list_any (same_object l.request) (map (λ (r : Bor Request). r.now) (drop l.place l.flight));
+  none : list_any (same_object l.request) (map (λ (r : Bor Request). r.now) l.flight)
+      ≡ list_any (same_object l.request) (map (λ (r : Bor Request). r.now) (drop l.place l.flight));
 }
 
 abbrev pub decreases-loop-place : goal.decreases-loop-place

@@ -6,7 +6,8 @@ use Rattle.lu_judge_acts.proofs.flights.has_tag.Given as goal
 abbrev pub invariant-loop-place : goal.invariant-loop-place
 invariant-loop-place l = record {
   within : l.place ≤ length l.flight;
-  none : list_any (λ (r : Request). r.tag == l.tag) (map (λ (r : Bor Request). r.now) l.flight) ≡ list_any (λ (r : Request). r.tag == l.tag) (map (λ (r : Bor Request). r.now) (drop l.place l.flight));
+  none : list_any (λ (r : Request). r.tag == l.tag) (map (λ (r : Bor Request). r.now) l.flight)
+      ≡ list_any (λ (r : Request). r.tag == l.tag) (map (λ (r : Bor Request). r.now) (drop l.place l.flight));
 }
 
 abbrev pub decreases-loop-place : goal.decreases-loop-place

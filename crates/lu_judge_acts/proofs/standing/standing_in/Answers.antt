@@ -2,9 +2,9 @@ use Rattle.std.proofs.Common.{◌≡◌, ℕ, ◌<◌, ◌≤◌, List, ◌∷�
 use Rattle.std.specs.Prelude.{reverse}
 use Rattle.std.proofs.lemmas.List.{take_all}
 use Rattle.lu_trace.specs.declared.entries.Line.{Line}
-use Rattle.lu_laws.specs.Words.Pasts.{Past}
-use Rattle.lu_judge.specs.Firsts.{before}
-use Rattle.lu_judge.proofs.Wholes.{before_more}
+use Rattle.lu_spec_laws.specs.Words.Pasts.{Past}
+use Rattle.lu_judge_pass.specs.Firsts.{before}
+use Rattle.lu_judge_pass.proofs.Wholes.{before_more}
 use Rattle.lu_judge_acts.specs.Tables.{ShowsStanding}
 use Rattle.lu_judge_acts.proofs.standing.standing_in.Goals as goal
 
@@ -16,7 +16,8 @@ loop-place-preserved c = record {
       let past = before c.args.lines.now c.loop-place.place in
       subst (λ (past : Past). ShowsStanding c.step.new.self whole past)
       (sym (before_more c.args.lines.now c.loop-place.place c.index-lines-place.result below))
-      (subst (λ (l : Line). ShowsStanding c.step.new.self whole (l ∷ past)) c.index-lines-place.is (c.in_ok-step.ensures.shows whole past lost (c.loop-place.invariant.shows whole lost)));
+      (subst (λ (l : Line). ShowsStanding c.step.new.self whole (l ∷ past)) c.index-lines-place.is
+      (c.in_ok-step.ensures.shows whole past lost (c.loop-place.invariant.shows whole lost)));
 }
 
 pub loop-place-init : goal.loop-place-init
@@ -28,5 +29,6 @@ all_lines lines place past = ap reverse (take_all place lines past)
 pub returns : goal.returns
 returns c = record {
   shows = λ whole lost.
-      subst (λ (past : Past). ShowsStanding c.loop-place.standing whole past) (all_lines c.args.lines.now c.loop-place.place (omega arith)) (c.loop-place.invariant.shows whole lost);
+      subst (λ (past : Past). ShowsStanding c.loop-place.standing whole past) (all_lines c.args.lines.now c.loop-place.place (omega arith))
+      (c.loop-place.invariant.shows whole lost);
 }

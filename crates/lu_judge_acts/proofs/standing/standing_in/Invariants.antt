@@ -1,6 +1,6 @@
 use Rattle.std.proofs.Common.{◌≤◌, ◌-◌, length}
-use Rattle.lu_laws.specs.Words.Pasts.{Past}
-use Rattle.lu_judge.specs.Firsts.{before}
+use Rattle.lu_spec_laws.specs.Words.Pasts.{Past}
+use Rattle.lu_judge_pass.specs.Firsts.{before}
 use Rattle.lu_judge_windows.specs.Lost.{ShowsLost}
 use Rattle.lu_judge_acts.specs.Tables.{ShowsStanding}
 use Rattle.lu_judge_acts.proofs.standing.standing_in.Given as goal

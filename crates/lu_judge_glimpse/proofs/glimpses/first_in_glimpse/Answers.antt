@@ -3,11 +3,11 @@ use Rattle.std.specs.Prelude.{reverse, All, Option, Some, None}
 use Rattle.std.proofs.lemmas.Result.{IfOk-weaker}
 use Rattle.lu_trace.specs.declared.entries.Line.{Line}
 use Rattle.lu_trace.specs.WellFormed.{IsLine}
-use Rattle.lu_laws.specs.Laws.Glimpse.{Glimpse}
-use Rattle.lu_judge.specs.Firsts.{HoldsBelow}
-use Rattle.lu_judge.specs.Places.{PlacedIn}
-use Rattle.lu_judge.proofs.Placed.{placed}
-use Rattle.lu_judge.proofs.Wholes.{at_each, none_is_whole}
+use Rattle.lu_spec_laws.specs.Laws.Glimpse.{Glimpse}
+use Rattle.lu_judge_pass.specs.Firsts.{HoldsBelow}
+use Rattle.lu_judge_pass.specs.Places.{PlacedIn}
+use Rattle.lu_judge_pass.proofs.Placed.{placed}
+use Rattle.lu_judge_pass.proofs.Wholes.{at_each, none_is_whole}
 use Rattle.lu_judge_glimpse.specs.declared.wanted.Wanted.{Wanted}
 use Rattle.lu_judge_glimpse.specs.Shown.{Fresh}
 use Rattle.lu_judge_glimpse.proofs.Passed.{seen_none, same_first}
@@ -45,5 +45,6 @@ pub returns-clause-none : goal.returns-clause-none
 returns-clause-none c =
     IfOk-weaker c.first_place.result _ _
     (λ place first. none_is_whole (Glimpse c.args.trace.now.osts (reverse c.args.trace.now.entries)) c.args.trace.now.entries place
-    (same_first c.as_slice-lines.result.now c.args.trace.now.entries c.new-2.result.osts c.args.trace.now.osts place c.as_slice-lines.ensures.same c.new-2.ensures.osts first))
+    (same_first c.as_slice-lines.result.now c.args.trace.now.entries c.new-2.result.osts c.args.trace.now.osts place
+    c.as_slice-lines.ensures.same c.new-2.ensures.osts first))
     c.first_place.ensures

@@ -1,7 +1,7 @@
 use Rattle.std.proofs.Common.{◌∙◌}
 use Rattle.std.proofs.lemmas.Result.{on_ok_weaker}
-use Rattle.lu_laws.specs.Words.Calls.{open_call}
-use Rattle.lu_judge_sizes.specs.Begins.{begun_place}
+use Rattle.lu_spec_laws.specs.Words.Calls.{open_call}
+use Rattle.lu_judge_glimpse.specs.Begins.{begun_place}
 use Rattle.lu_judge_glimpse.specs.Shown.{watch_at}
 use Rattle.lu_judge_glimpse.specs.Watched.{watch_begun}
 use Rattle.lu_judge_glimpse.proofs.Watches.{moved}
@@ -12,7 +12,8 @@ returns-in-Client c = record {
   watched = on_ok_weaker c.watch_call.result (λ watched. λ past shown c' s.
       rw (c.in-Begin.is, c.in-Client.is)
       (watched past shown c' s
-      ∙ moved c.in-Client.client c' c.in-Begin.slot s (λ a b. watch_begun c.args.counts.now (begun_place a b past) (watch_at c.args.standing.now c' s) (open_call a b past)) (watch_at c.args.standing.now c' s)))
+      ∙ moved c.in-Client.client c' c.in-Begin.slot s (λ a b. watch_begun c.args.counts.now (begun_place a b past)
+      (watch_at c.args.standing.now c' s) (open_call a b past)) (watch_at c.args.standing.now c' s)))
       c.watch_call.ensures.watched;
 }
 

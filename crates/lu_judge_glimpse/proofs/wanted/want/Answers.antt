@@ -1,6 +1,6 @@
 use Rattle.std.proofs.Common.{◌≡◌, ◌+◌, ◌<◌, ◌++◌, ℕ, Bool, List, [], ◌∷◌, length, take, arith, ap, sym, subst, refl, ◌∙◌}
 use Rattle.std.specs.Prelude.{if◌then◌else◌}
-use Rattle.lu_judge_sizes.specs.Sightings.{since_in}
+use Rattle.lu_judge_glimpse.specs.Sightings.{since_in}
 use Rattle.lu_judge_glimpse.proofs.Loops.{want_step}
 use Rattle.lu_judge_glimpse.proofs.wanted.want.Goals as goal
 use Rattle.lu_judge_glimpse.proofs.wanted.want.Goals.{then-not-since+in_ok-push, else-not-since}
@@ -8,7 +8,9 @@ use Rattle.lu_judge_glimpse.proofs.wanted.want.Goals.{then-not-since+in_ok-push,
 pub loop-stripe-preserved : goal.loop-stripe-preserved
 loop-stripe-preserved c =
     let below : c.loop-stripe.stripe < length c.args.sizes.now = omega arith in
-    let steps = want_step (λ stripe size. since_in c.args.sightings.now c.args.file stripe size c.args.begun) c.args.place c.args.file c.args.sizes.now c.loop-stripe.stripe _ _ c.args.wanted.now.items c.loop-stripe.wanted.items below c.since.ensures.since c.loop-stripe.invariant.wanted in
+    let steps = want_step (λ stripe size. since_in c.args.sightings.now c.args.file stripe size c.args.begun) c.args.place c.args.file
+    c.args.sizes.now c.loop-stripe.stripe _ _ c.args.wanted.now.items c.loop-stripe.wanted.items below c.since.ensures.since
+    c.loop-stripe.invariant.wanted in
     record {
       within = omega arith;
       wanted = elim c.if-not-since.branch [

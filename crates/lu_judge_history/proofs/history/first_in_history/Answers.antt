@@ -2,9 +2,9 @@
 use Rattle.std.proofs.Common.{◌≡◌, refl}
 use Rattle.std.specs.Prelude.{reverse, None, ◌↔◌}
 use Rattle.std.proofs.lemmas.Result.{IfOk-weaker}
-use Rattle.lu_laws.specs.Holds.{Holds}
-use Rattle.lu_laws.specs.Laws.History.{History as HistoryLaw}
-use Rattle.lu_judge.specs.Firsts.{IsFirst}
+use Rattle.lu_spec_laws.specs.Holds.{Holds}
+use Rattle.lu_spec_laws.specs.Laws.History.{History as HistoryLaw}
+use Rattle.lu_judge_pass.specs.Firsts.{IsFirst}
 use Rattle.lu_judge_history.proofs.Given.{given_of, moved}
 use Rattle.lu_judge_history.proofs.history.first_in_history.Goals as goal
 
@@ -30,6 +30,7 @@ pub returns-clause-none : goal.returns-clause-none
 returns-clause-none c =
     IfOk-weaker c.first_broken.result _ _
     (λ place is.
-    moved (λ n all lines. (place ≡ None) ↔ Holds (HistoryLaw n (reverse all)) (reverse lines)) c.args.trace.now.osts _ _ _ c.args.trace.now.entries
+    moved (λ n all lines. (place ≡ None) ↔ Holds (HistoryLaw n (reverse all)) (reverse lines)) c.args.trace.now.osts _ _ _
+    c.args.trace.now.entries
     c.in_ok-judge.ensures.osts c.in_ok-judge.ensures.lines c.as_slice.ensures.same is)
     c.first_broken.ensures.none

@@ -2,7 +2,7 @@
 use Rattle.std.proofs.Common.{sym, subst}
 use Rattle.std.specs.Option.{option_map}
 use Rattle.lu_posix.specs.Shown.{Shows}
-use Rattle.lu_laws.specs.Words.Histories.{piece_act, after_item}
+use Rattle.lu_spec_laws.specs.Words.Histories.{piece_act, after_item}
 use Rattle.lu_judge_history.proofs.plays.perform_piece.Goals as goal
 
 pub returns-in_ok-reach-in-Some : goal.returns-in_ok-reach-in-Some

@@ -1,7 +1,7 @@
 -- What the machine would tell.
 use Rattle.std.proofs.Common.{sym, ap, ◌∙◌}
 use Rattle.std.proofs.lemmas.Result.{IfOk-weaker}
-use Rattle.lu_machine.specs.Machine.{answer}
+use Rattle.lu_spec_machine.specs.Machine.{answer}
 use Rattle.lu_judge_history.specs.declared.asked.Asked.{Asked}
 use Rattle.lu_judge_history.specs.Deeds.{act_asked}
 use Rattle.lu_judge_history.proofs.plays.told.Goals as goal

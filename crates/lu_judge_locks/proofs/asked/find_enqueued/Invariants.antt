@@ -1,8 +1,8 @@
 -- None of what the later messages ask for is for it.
 use Rattle.std.proofs.Common.{◌≡◌, ◌≤◌, length, drop}
 use Rattle.std.specs.Prelude.{None}
-use Rattle.lu_laws.specs.Words.Asked.{is_for}
-use Rattle.lu_judge.specs.Tables.{sending_of}
+use Rattle.lu_spec_laws.specs.Words.Asked.{is_for}
+use Rattle.lu_judge_pass.specs.Tables.{sending_of}
 use Rattle.lu_judge_locks.specs.Asked.{requested_in}
 use Rattle.lu_judge_locks.proofs.Asking.{found_in}
 use Rattle.lu_judge_locks.proofs.asked.find_enqueued.Given as goal

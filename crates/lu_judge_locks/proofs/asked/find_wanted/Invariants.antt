@@ -1,7 +1,7 @@
 -- None of the wanted locks so far is for it.
 use Rattle.std.proofs.Common.{◌≡◌, take}
 use Rattle.std.specs.Prelude.{find, None}
-use Rattle.lu_laws.specs.Words.Asked.{is_for, wanted_lock}
+use Rattle.lu_spec_laws.specs.Words.Asked.{is_for, wanted_lock}
 use Rattle.lu_judge_locks.proofs.asked.find_wanted.Given as goal
 
 abbrev pub invariant-loop-want : goal.invariant-loop-want

@@ -1,7 +1,7 @@
 use Rattle.std.proofs.Common.{List, [], ◌∷◌, reverse, refl}
 use Rattle.lu_trace.specs.declared.entries.Line.{Line}
-use Rattle.lu_laws.specs.Words.Pasts.{Past}
-use Rattle.lu_laws.specs.Holds.{HoldsBefore}
+use Rattle.lu_spec_laws.specs.Words.Pasts.{Past}
+use Rattle.lu_spec_laws.specs.Holds.{HoldsBefore}
 use Rattle.lu_judge_messages.proofs.messages.first_in_messages.Goals as goal
 
 -- nothing is given, which holds of each trace

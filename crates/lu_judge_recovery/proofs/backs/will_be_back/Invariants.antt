@@ -1,7 +1,7 @@
 use Rattle.std.proofs.Common.{◌≡◌, ◌≤◌, ◌-◌, false, length, take}
 use Rattle.std.specs.List.{list_any}
 use Rattle.lu_trace.specs.declared.entries.Line.{Line}
-use Rattle.lu_laws.specs.Laws.Recovery.{is_back_of}
+use Rattle.lu_spec_laws.specs.Laws.Recovery.{is_back_of}
 use Rattle.lu_judge_recovery.proofs.backs.will_be_back.Given as goal
 
 abbrev pub invariant-loop-place : goal.invariant-loop-place

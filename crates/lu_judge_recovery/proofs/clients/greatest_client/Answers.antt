@@ -1,9 +1,9 @@
 use Rattle.std.proofs.Common.{◌≡◌, ◌<◌, ◌∷◌, length, sym, ap, ◌∙◌, subst, arith}
 use Rattle.lu_trace.specs.declared.entries.Line.{Line}
-use Rattle.lu_laws.specs.Words.Pasts.{Past}
-use Rattle.lu_laws.specs.Words.Clients.{clients, clients_step}
-use Rattle.lu_judge.specs.Firsts.{before}
-use Rattle.lu_judge.proofs.Wholes.{before_more}
+use Rattle.lu_spec_laws.specs.Words.Pasts.{Past}
+use Rattle.lu_spec_laws.specs.Words.Clients.{clients, clients_step}
+use Rattle.lu_judge_pass.specs.Firsts.{before}
+use Rattle.lu_judge_pass.proofs.Wholes.{before_more}
 use Rattle.lu_judge_recovery.proofs.clients.greatest_client.Goals as goal
 
 pub loop-place-preserved : goal.loop-place-preserved

@@ -1,6 +1,6 @@
 use Rattle.std.proofs.Common.{◌≡◌, ◌≤◌, ◌-◌, length}
-use Rattle.lu_laws.specs.Words.Clients.{clients}
-use Rattle.lu_judge.specs.Firsts.{before}
+use Rattle.lu_spec_laws.specs.Words.Clients.{clients}
+use Rattle.lu_judge_pass.specs.Firsts.{before}
 use Rattle.lu_judge_recovery.specs.Clients.{count_of}
 use Rattle.lu_judge_recovery.proofs.clients.greatest_client.Given as goal
 

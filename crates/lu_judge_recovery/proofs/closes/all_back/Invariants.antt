@@ -1,10 +1,10 @@
 use Rattle.std.proofs.Common.{◌≡◌, ◌≤◌, ◌-◌, true, length, take}
 use Rattle.std.specs.Prelude.{◌||◌}
 use Rattle.lu_base.specs.declared.ids.Who.{Who}
-use Rattle.lu_machine.specs.Footprint.{Every}
-use Rattle.lu_laws.specs.Words.Pasts.{Past}
-use Rattle.lu_laws.specs.Words.Handed.{is_back, has_newer}
-use Rattle.lu_judge.specs.Ledgers.{ShowsLedger}
+use Rattle.lu_spec_machine.specs.Footprint.{Every}
+use Rattle.lu_spec_laws.specs.Words.Pasts.{Past}
+use Rattle.lu_spec_laws.specs.Words.Handed.{is_back, has_newer}
+use Rattle.lu_judge_pass.specs.Ledgers.{ShowsLedger}
 use Rattle.lu_judge_windows.specs.Windows.{ShowsWindows}
 use Rattle.lu_judge_recovery.proofs.closes.all_back.Given as goal
 

@@ -2,10 +2,10 @@ use Rattle.std.proofs.Common.{ℕ, ◌≤◌, ◌-◌, List, length, take}
 use Rattle.lu_base.specs.declared.ids.At.{At}
 use Rattle.lu_base.specs.declared.ids.Who.{Who}
 use Rattle.lu_trace.specs.declared.entries.Line.{Line}
-use Rattle.lu_machine.specs.Footprint.{Every}
-use Rattle.lu_laws.specs.Words.Pasts.{Past}
-use Rattle.lu_laws.specs.Words.Closes.{cause_at}
-use Rattle.lu_laws.specs.Laws.Recovery.{Evicts}
+use Rattle.lu_spec_machine.specs.Footprint.{Every}
+use Rattle.lu_spec_laws.specs.Words.Pasts.{Past}
+use Rattle.lu_spec_laws.specs.Words.Closes.{cause_at}
+use Rattle.lu_spec_laws.specs.Laws.Recovery.{Evicts}
 use Rattle.lu_judge_recovery.specs.Closings.{KnowsClose, AreCauses}
 use Rattle.lu_judge_recovery.specs.Rest.{ShowsRest}
 use Rattle.lu_judge_recovery.proofs.closes.evicts_all.Given as goal

@@ -1,8 +1,8 @@
 use Rattle.std.proofs.Common.{◌≡◌, ◌≤◌, ◌-◌, true, List, length, take}
 use Rattle.lu_base.specs.declared.ids.At.{At}
 use Rattle.lu_trace.specs.declared.entries.Line.{Line}
-use Rattle.lu_machine.specs.Footprint.{Every}
-use Rattle.lu_laws.specs.Words.Closes.{will_keep}
+use Rattle.lu_spec_machine.specs.Footprint.{Every}
+use Rattle.lu_spec_laws.specs.Words.Closes.{will_keep}
 use Rattle.lu_judge_recovery.specs.Rest.{ShowsRest}
 use Rattle.lu_judge_recovery.proofs.closes.keeps_all.Given as goal
 

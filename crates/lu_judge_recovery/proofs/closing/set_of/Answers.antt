@@ -1,7 +1,7 @@
 use Rattle.std.proofs.Common.{◌≡◌, ◌<◌, ◌∙◌, ap, sym, length, take, arith}
 use Rattle.std.specs.Prelude.{◌||◌}
 use Rattle.std.proofs.lemmas.List.Folds.{list_any_more}
-use Rattle.lu_judge.proofs.Shown.{add}
+use Rattle.lu_judge_pass.proofs.Shown.{add}
 use Rattle.lu_judge_recovery.proofs.Sets.{number_added}
 use Rattle.lu_judge_recovery.proofs.closing.set_of.Goals as goal
 

@@ -1,7 +1,7 @@
 use Rattle.std.proofs.Common.{◌≡◌, ℕ, ◌≤◌, ◌-◌, length, take}
 use Rattle.std.specs.Prelude.{◌==◌}
 use Rattle.std.specs.HashSet.{contains_by}
-use Rattle.lu_laws.specs.Words.Lost.{is_among}
+use Rattle.lu_spec_laws.specs.Words.Lost.{is_among}
 use Rattle.lu_judge_recovery.proofs.closing.set_of.Given as goal
 
 abbrev pub invariant-loop-place : goal.invariant-loop-place

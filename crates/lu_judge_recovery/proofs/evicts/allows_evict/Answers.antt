@@ -21,7 +21,8 @@ returns-then-not-has_committed c = record {
 pub returns-in-Some : goal.returns-in-Some
 returns-in-Some c = record {
   decided = λ clients past later below known marks callbacks ordered follows fits.
-      evict_line (Some c.in-Some.closing.now) clients c.args.turn.target (turn_at c.args.turn.stamp c.args.turn.target) past later c.args.who c.args.cause c.is_decided.result below
+      evict_line (Some c.in-Some.closing.now) clients c.args.turn.target (turn_at c.args.turn.stamp c.args.turn.target) past later
+      c.args.who c.args.cause c.is_decided.result below
       (sym (c.has_slot.ensures.slot past known.ledger known.windows) ∙ c.if-not-has_slot.false)
       (sym (c.has_committed.ensures.committed ∙ marks.committed c.args.turn.stamp c.args.turn.target) ∙ c.if-not-has_committed.false)
       (rw c.in-Some.is at fits) c.is_decided.ensures.decided;
@@ -30,7 +31,8 @@ returns-in-Some c = record {
 pub returns-in-None : goal.returns-in-None
 returns-in-None c = record {
   decided = λ clients past later below known marks callbacks ordered follows fits.
-      evict_line None clients c.args.turn.target (turn_at c.args.turn.stamp c.args.turn.target) past later c.args.who c.args.cause c.is_evicted_by.result below
+      evict_line None clients c.args.turn.target (turn_at c.args.turn.stamp c.args.turn.target) past later c.args.who c.args.cause
+      c.is_evicted_by.result below
       (sym (c.has_slot.ensures.slot past known.ledger known.windows) ∙ c.if-not-has_slot.false)
       (sym (c.has_committed.ensures.committed ∙ marks.committed c.args.turn.stamp c.args.turn.target) ∙ c.if-not-has_committed.false)
       (rw c.in-None.is at fits) (c.is_evicted_by.ensures.decided past known.ledger ordered follows marks callbacks);

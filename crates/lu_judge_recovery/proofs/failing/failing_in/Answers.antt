@@ -1,8 +1,8 @@
 use Rattle.std.proofs.Common.{◌<◌, ◌∷◌, length, sym, subst, arith}
 use Rattle.lu_trace.specs.declared.entries.Line.{Line}
-use Rattle.lu_laws.specs.Words.Pasts.{Past}
-use Rattle.lu_judge.specs.Firsts.{before}
-use Rattle.lu_judge.proofs.Wholes.{before_more}
+use Rattle.lu_spec_laws.specs.Words.Pasts.{Past}
+use Rattle.lu_judge_pass.specs.Firsts.{before}
+use Rattle.lu_judge_pass.proofs.Wholes.{before_more}
 use Rattle.lu_judge_recovery.specs.Failing.{ShowsFailing}
 use Rattle.lu_judge_recovery.proofs.failing.failing_in.Goals as goal
 
@@ -14,5 +14,6 @@ loop-place-preserved c = record {
       let past = before c.args.lines.now c.loop-place.place in
       subst (λ (past : Past). ShowsFailing c.step.new.self past)
       (sym (before_more c.args.lines.now c.loop-place.place c.index-lines-place.result below))
-      (subst (λ (l : Line). ShowsFailing c.step.new.self (l ∷ past)) c.index-lines-place.is (c.in_ok-step.ensures.shows past c.loop-place.invariant.shows));
+      (subst (λ (l : Line). ShowsFailing c.step.new.self (l ∷ past)) c.index-lines-place.is
+      (c.in_ok-step.ensures.shows past c.loop-place.invariant.shows));
 }

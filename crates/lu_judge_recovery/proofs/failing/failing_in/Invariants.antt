@@ -1,5 +1,5 @@
 use Rattle.std.proofs.Common.{◌≤◌, ◌-◌, length}
-use Rattle.lu_judge.specs.Firsts.{before}
+use Rattle.lu_judge_pass.specs.Firsts.{before}
 use Rattle.lu_judge_recovery.specs.Failing.{ShowsFailing}
 use Rattle.lu_judge_recovery.proofs.failing.failing_in.Given as goal
 

@@ -7,13 +7,15 @@ use Rattle.lu_judge_recovery.proofs.kept.allows_kept.Goals as goal
 pub returns-then-number-at : goal.returns-then-number-at
 returns-then-number-at c = record {
   decided = λ clients past later settled fits.
-      kept_refused c.args.turn.target (turn_at c.args.turn.stamp c.args.turn.target) past later c.args.number.0 c.at.result (c.at.ensures.settled ∙ settled c.args.turn.target) (omega arith);
+      kept_refused c.args.turn.target (turn_at c.args.turn.stamp c.args.turn.target) past later c.args.number.0 c.at.result
+      (c.at.ensures.settled ∙ settled c.args.turn.target) (omega arith);
 }
 
 pub returns-in-Some : goal.returns-in-Some
 returns-in-Some c = record {
   decided = λ clients past later settled fits.
-      kept_line (Some c.in-Some.closing.now) clients c.args.turn.target (turn_at c.args.turn.stamp c.args.turn.target) past later c.args.number.0 c.at.result c.is_next.result
+      kept_line (Some c.in-Some.closing.now) clients c.args.turn.target (turn_at c.args.turn.stamp c.args.turn.target) past later
+      c.args.number.0 c.at.result c.is_next.result
       (c.at.ensures.settled ∙ settled c.args.turn.target) (omega arith) (rw c.in-Some.is at fits) c.is_next.ensures.next;
 }
 

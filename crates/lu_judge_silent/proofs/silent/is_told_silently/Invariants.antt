@@ -1,6 +1,6 @@
 use Rattle.std.proofs.Common.{◌≡◌, ◌≤◌, ◌-◌, length, drop}
-use Rattle.lu_laws.specs.Laws.Silent.{is_told_silently}
-use Rattle.lu_judge.specs.Places.{turn_of}
+use Rattle.lu_spec_laws.specs.Laws.Silent.{is_told_silently}
+use Rattle.lu_judge_pass.specs.Places.{turn_of}
 use Rattle.lu_judge_silent.proofs.silent.is_told_silently.Given as goal
 
 abbrev pub invariant-loop-place : goal.invariant-loop-place

@@ -1,9 +1,9 @@
 use Rattle.std.proofs.Common.{◌≤◌, ◌-◌, length}
 use Rattle.std.specs.Prelude.{reverse}
-use Rattle.lu_laws.specs.Laws.Messages.{Messages}
-use Rattle.lu_laws.specs.Holds.{Holds}
-use Rattle.lu_judge.specs.Firsts.{before}
-use Rattle.lu_judge.specs.Ledgers.{ShowsLedger}
+use Rattle.lu_spec_laws.specs.Laws.Messages.{Messages}
+use Rattle.lu_spec_laws.specs.Holds.{Holds}
+use Rattle.lu_judge_pass.specs.Firsts.{before}
+use Rattle.lu_judge_pass.specs.Ledgers.{ShowsLedger}
 use Rattle.lu_judge_windows.specs.Windows.{ShowsWindows}
 use Rattle.lu_judge_windows.proofs.wholes.lost_in.Given as goal
 

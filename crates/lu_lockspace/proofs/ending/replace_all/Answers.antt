@@ -18,12 +18,18 @@ replace-requires c = (subst (λ es. AllThere c.loop-resource.queues (keys_of es)
 
 pub loop-resource-preserved : goal.loop-resource-preserved
 loop-resource-preserved c =
-    let there : AllThere c.loop-resource.queues (keys_of ((c.in-Some.resource, c.in-Some.queue) ∷ c.pop_front.new.self.items)) = subst (λ es. AllThere c.loop-resource.queues (keys_of es)) c.in-Some.ensures.items c.loop-resource.invariant.1 in (
-      λ after h. c.loop-resource.invariant.0 after (subst (λ es. AllReplaced es c.loop-resource.queues after) (sym c.in-Some.ensures.items) (c.replace.new.self, c.replace.ensures.rising, c.replace.ensures.here, c.replace.ensures.others, h)),
-      there_more c.in-Some.resource c.loop-resource.queues c.replace.new.self (keys_of c.pop_front.new.self.items) c.replace.ensures.others there.1 there.2,
+    let there : AllThere c.loop-resource.queues (keys_of ((c.in-Some.resource, c.in-Some.queue) ∷ c.pop_front.new.self.items)) =
+    subst (λ es. AllThere c.loop-resource.queues (keys_of es)) c.in-Some.ensures.items c.loop-resource.invariant.1 in (
+      λ after h. c.loop-resource.invariant.0 after (subst (λ es. AllReplaced es c.loop-resource.queues after) (sym c.in-Some.ensures.items)
+          (c.replace.new.self, c.replace.ensures.rising, c.replace.ensures.here, c.replace.ensures.others, h)),
+      there_more c.in-Some.resource c.loop-resource.queues c.replace.new.self (keys_of c.pop_front.new.self.items) c.replace.ensures.others
+          there.1 there.2,
       c.replace.ensures.rising,
     )
 
 pub returns-clause-replaced : goal.returns-clause-replaced
 returns-clause-replaced c =
-    c.loop-resource.invariant.0 c.loop-resource.queues (subst (λ es. AllReplaced es c.loop-resource.queues c.loop-resource.queues) (sym (none_left c.loop-resource.ended.items c.pop_front.new.self.items (c.pop_front.ensures.items ∙ ap (λ o. option_to_list o ++ c.pop_front.new.self.items) c.in_default.is) c.pop_front.ensures.rest)) refl)
+    c.loop-resource.invariant.0 c.loop-resource.queues (subst (λ es. AllReplaced es c.loop-resource.queues c.loop-resource.queues)
+    (sym (none_left c.loop-resource.ended.items c.pop_front.new.self.items
+    (c.pop_front.ensures.items ∙ ap (λ o. option_to_list o ++ c.pop_front.new.self.items) c.in_default.is) c.pop_front.ensures.rest))
+    refl)

@@ -18,8 +18,10 @@ pub loop-lock-preserved : goal.loop-lock-preserved
 loop-lock-preserved c =
     let e : c.extend_from_slice.new.self.items ≡ c.loop-lock.cookies.items ++ c.in_ok-first.first = search rules in
     λ rest h. subst (λ cs. AreBlocking c.args.granted.now c.args.waiting.now [] (cs ++ rest)) (sym e)
-    (blocking_step c.args.granted.now c.args.waiting.now c.loop-lock.lock-index none_yet c.loop-lock.cookies.items c.in_ok-first.first c.loop-lock-test.true
-    (subst (λ told. IsPermutation (blocking_more (get_or c.args.waiting.now c.loop-lock.lock-index none_yet).ask c.args.granted.now told) c.in_ok-first.first) c.deref.ensures.value c.in_ok-first.ensures.same)
+    (blocking_step c.args.granted.now c.args.waiting.now c.loop-lock.lock-index none_yet c.loop-lock.cookies.items c.in_ok-first.first
+    c.loop-lock-test.true
+    (subst (λ told. IsPermutation (blocking_more (get_or c.args.waiting.now c.loop-lock.lock-index none_yet).ask c.args.granted.now told)
+    c.in_ok-first.first) c.deref.ensures.value c.in_ok-first.ensures.same)
     c.in_ok-first.ensures.rising c.loop-lock.invariant rest
     (subst (λ cs. AreBlocking c.args.granted.now (drop (c.loop-lock.lock-index + 1) c.args.waiting.now) cs rest) e h))
 

@@ -6,4 +6,5 @@ use Rattle.lu_lockspace.proofs.listing.blocking.Given as goal
 
 abbrev pub invariant-loop-lock : goal.invariant-loop-lock
 invariant-loop-lock l =
-    (rest : List Cookie) → AreBlocking l.granted (drop l.lock-index l.waiting) l.cookies.items rest → AreBlocking l.granted l.waiting [] (l.cookies.items ++ rest)
+    (rest : List Cookie) → AreBlocking l.granted (drop l.lock-index l.waiting) l.cookies.items rest
+    → AreBlocking l.granted l.waiting [] (l.cookies.items ++ rest)

@@ -10,4 +10,5 @@ use Rattle.lu_lockspace.proofs.listing.guards.Given as goal
 abbrev pub invariant-loop-part : goal.invariant-loop-part
 invariant-loop-part l =
     AreApart l.resources.items
-    × ((resource : Resource) → is_listed resource l.resources.items ≡ false → list_any (λ part. same_resource resource (guard part).0) (take l.part-index l.parts) ≡ false)
+    × ((resource : Resource) → is_listed resource l.resources.items ≡ false
+    → list_any (λ part. same_resource resource (guard part).0) (take l.part-index l.parts) ≡ false)

@@ -1,5 +1,5 @@
 use Rattle.std.proofs.Common.{◌≡◌, take}
-use Rattle.lu_client_rows.specs.Patches.{fresh}
+use Rattle.lu_spec_client.specs.Patches.{fresh}
 use Rattle.lu_patch.proofs.flight.fresh.Given as goal
 
 abbrev pub invariant-loop-byte : goal.invariant-loop-byte

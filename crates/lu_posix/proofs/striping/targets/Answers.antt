@@ -12,5 +12,6 @@ loop-stripe-preserved c =
     let l : i < length ts = omega (arith, c.loop-stripe.invariant.room) in
     record {
       room = grind (arith, common_steps, c.loop-stripe.invariant.room);
-      filled = take-set_at ts i (i + 1) (target i) refl l ∙ ap (λ xs. xs ++ target i ∷ []) c.loop-stripe.invariant.filled ∙ sym (map-range_with_len_more target 0 i i (omega arith));
+      filled = take-set_at ts i (i + 1) (target i) refl l ∙ ap (λ xs. xs ++ target i ∷ []) c.loop-stripe.invariant.filled
+          ∙ sym (map-range_with_len_more target 0 i i (omega arith));
     }

@@ -14,4 +14,5 @@ returns-clause-rising c =
     let test : Grant → Bool = λ lock. conflict c.args.ask.now lock.ask in
     let moved : IsPermutation (map (λ lock. lock.cookie) (filter test c.args.locks.now)) cookies =
     subst (λ all. IsPermutation all cookies) c.in_ok-cookies.ensures c.sort_unstable.ensures.permutation in
-    subst IsRising (sym c.from.ensures) (rising_once test c.args.locks.now cookies c.requires moved (not_falling (λ x y. nat_cmp x.0 y.0) (λ a b below. ge_from_not_lt b.0 a.0 below) cookies c.sort_unstable.ensures.sorted))
+    subst IsRising (sym c.from.ensures) (rising_once test c.args.locks.now cookies c.requires moved
+    (not_falling (λ x y. nat_cmp x.0 y.0) (λ a b below. ge_from_not_lt b.0 a.0 below) cookies c.sort_unstable.ensures.sorted))

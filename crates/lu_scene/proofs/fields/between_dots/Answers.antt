@@ -5,5 +5,6 @@ use Rattle.lu_scene.proofs.fields.between_dots.Goals as goal
 
 pub returns : goal.returns
 returns c = record {
-  parts = map_from_collect _ c.collect.ensures.ran (YieldsList-from_slice_split _ _ c.args.word.now c.split.ensures.rest c.split.ensures.done c.split.ensures.closure (λ x r q k. search (rules, tests)));
+  parts = map_from_collect _ c.collect.ensures.ran (YieldsList-from_slice_split _ _ c.args.word.now c.split.ensures.rest
+      c.split.ensures.done c.split.ensures.closure (λ x r q k. search (rules, tests)));
 }

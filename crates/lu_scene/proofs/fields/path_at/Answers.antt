@@ -6,10 +6,12 @@ use Rattle.lu_scene.proofs.fields.path_at.Goals as goal
 
 pub returns-in-Some : goal.returns-in-Some
 returns-in-Some c = record {
-  path = ap (or_fault faults.Path) (path_of-answered c.in_ok-path.field-0 c.args.word.now c.in_ok-path.ensures.some c.in_ok-path.ensures.none ∙ c.in-Some.is);
+  path = ap (or_fault faults.Path) (path_of-answered c.in_ok-path.field-0 c.args.word.now c.in_ok-path.ensures.some
+      c.in_ok-path.ensures.none ∙ c.in-Some.is);
 }
 
 pub returns-in-None : goal.returns-in-None
 returns-in-None c = record {
-  path = ap (or_fault faults.Path) (path_of-answered c.in_ok-path.field-0 c.args.word.now c.in_ok-path.ensures.some c.in_ok-path.ensures.none ∙ c.in-None.is);
+  path = ap (or_fault faults.Path) (path_of-answered c.in_ok-path.field-0 c.args.word.now c.in_ok-path.ensures.some
+      c.in_ok-path.ensures.none ∙ c.in-None.is);
 }

@@ -5,5 +5,6 @@ use Rattle.lu_scene.proofs.reader.lines_of.Goals as goal
 
 pub returns : goal.returns
 returns c = record {
-  lines = map_from_collect _ c.collect.ensures.ran (YieldsList-from_slice_split _ _ c.args.text.now c.split.ensures.rest c.split.ensures.done c.split.ensures.closure (λ x r q k. search (rules, tests)));
+  lines = map_from_collect _ c.collect.ensures.ran (YieldsList-from_slice_split _ _ c.args.text.now c.split.ensures.rest
+      c.split.ensures.done c.split.ensures.closure (λ x r q k. search (rules, tests)));
 }

@@ -15,12 +15,17 @@ returns-in-Err c =
     let total = lines_after 1 nothing (lines_of c.args.text.now) in
     record {
       read = subst (λ e. Stops e total) (sym c.on_line.ensures.fault)
-          (stopped c.in-Err.error (λ line. line.now) c.deref-line-items.result.now c.loop-place.place _ c.loop-place.progress total c.loop-place-test.true c.in-Err.ensures.after c.loop-place.invariant);
+          (stopped c.in-Err.error (λ line. line.now) c.deref-line-items.result.now c.loop-place.place _ c.loop-place.progress total
+          c.loop-place-test.true c.in-Err.ensures.after c.loop-place.invariant);
     }
 
 pub loop-place-preserved : goal.loop-place-preserved
 loop-place-preserved c =
-    went_on (λ line. line.now) c.deref-line-items.result.now c.loop-place.place _ c.loop-place.progress c.take_line.new.self _ c.loop-place-test.true c.in_default.ensures.after c.loop-place.invariant
+    went_on (λ line. line.now) c.deref-line-items.result.now c.loop-place.place _ c.loop-place.progress c.take_line.new.self _
+    c.loop-place-test.true c.in_default.ensures.after c.loop-place.invariant
 
 pub returns : goal.returns
-returns c = record { read = ended (λ line. line.now) c.deref-line-items.result.now c.loop-place.place c.loop-place.progress _ c.loop-place-test.false c.loop-place.invariant }
+returns c = record {
+  read = ended (λ line. line.now) c.deref-line-items.result.now c.loop-place.place c.loop-place.progress _
+      c.loop-place-test.false c.loop-place.invariant;
+}

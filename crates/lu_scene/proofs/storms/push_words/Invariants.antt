@@ -6,4 +6,5 @@ use Rattle.lu_scene.proofs.storms.push_words.Given as goal
 
 abbrev pub invariant-loop-place : goal.invariant-loop-place
 invariant-loop-place l =
-    (l.lines ++ flat_map word_lines (words (l.count - l._place) l.generator)) ≡ (l.initial.lines ++ flat_map word_lines (words l.count l.seed))
+    (l.lines ++ flat_map word_lines (words (l.count - l._place) l.generator))
+    ≡ (l.initial.lines ++ flat_map word_lines (words l.count l.seed))

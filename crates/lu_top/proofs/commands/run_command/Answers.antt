@@ -5,4 +5,7 @@ pub returns-in-Ok-clause-back : goal.returns-in-Ok-clause-back
 returns-in-Ok-clause-back g c = λ ran. (map string_bytes c.as_slice.result.now, c.run.ensures.back ran)
 
 pub returns-in-Ok-clause-disk_fault_written : goal.returns-in-Ok-clause-disk_fault_written
-returns-in-Ok-clause-disk_fault_written g c = λ t failed. (map string_bytes c.as_slice.result.now, c.run.ensures.disk_fault_written t failed)
+returns-in-Ok-clause-disk_fault_written g c = λ t failed. (
+  map string_bytes c.as_slice.result.now,
+  c.run.ensures.disk_fault_written t failed,
+)

@@ -14,7 +14,8 @@ returns-clause-fails c = λ which says.
     ∙ ap₂ with_rule (c.in_ok-arg.ensures.shape (search rules) ∙ ap₂ with_rule c.new-3.ensures.app form_is) number_is in
     let command_is : app_of c.no_binary_name.result ≡ command = ap app_of_fields c.no_binary_name.ensures
     ∙ ap (λ (a : App). record a { top = record a.top { no_binary_name = true } }) both_is in
-    IfErr-weaker c.try_get_matches_from.result _ _ (λ e h. h (ap₂ takes command_is says.1 ∙ taken which says.0)) c.try_get_matches_from.ensures.passes
+    IfErr-weaker c.try_get_matches_from.result _ _ (λ e h. h (ap₂ takes command_is says.1 ∙ taken which says.0))
+    c.try_get_matches_from.ensures.passes
 
 pub returns-clause-word : goal.returns-clause-word
 returns-clause-word c = λ which says.

@@ -12,13 +12,15 @@ pub returns-in-Ok-clause-judged : goal.returns-in-Ok-clause-judged
 returns-in-Ok-clause-judged g c = λ text trace given is.
     let there = c.trace_of.ensures.only text trace given is in
     let same = that_one c.trace_of.result c.in-Ok.trace trace no_trace.Memory c.in-Ok.is there in
-    subst (λ (t : Trace). IsJudgedStatus t c.tell_verdict.result) (sym same) (judged_of c.in-Ok.trace _ _ _ _ c.tell_verdict.result c.tell_verdict.ensures.told)
+    subst (λ (t : Trace). IsJudgedStatus t c.tell_verdict.result) (sym same)
+    (judged_of c.in-Ok.trace _ _ _ _ c.tell_verdict.result c.tell_verdict.ensures.told)
 
 pub returns-in-Ok-clause-verdict : goal.returns-in-Ok-clause-verdict
 returns-in-Ok-clause-verdict g c = λ text trace given is calm.
     let there = c.trace_of.ensures.only text trace given is in
     let same = that_one c.trace_of.result c.in-Ok.trace trace no_trace.Memory c.in-Ok.is there in
-    subst (λ (t : Trace). IsVerdictStatus t c.tell_verdict.result) (sym same) (verdict_of c.in-Ok.trace _ _ _ _ c.tell_verdict.result c.tell_verdict.ensures.told calm)
+    subst (λ (t : Trace). IsVerdictStatus t c.tell_verdict.result) (sym same)
+    (verdict_of c.in-Ok.trace _ _ _ _ c.tell_verdict.result c.tell_verdict.ensures.told calm)
 
 pub returns-in-Err-ReadFault-clause-told : goal.returns-in-Err-ReadFault-clause-told
 returns-in-Err-ReadFault-clause-told g c =

@@ -1,7 +1,7 @@
 use Rattle.std.proofs.Common.{sym, subst}
 use Rattle.lu_scene.specs.declared.scene.Scene.{Scene}
-use Rattle.lu_player.specs.Quiet.{IsBareScene, AsksNoDisk}
-use Rattle.lu_player.specs.Played.{SomeRose}
+use Rattle.lu_core.specs.Quiet.{IsBareScene, AsksNoDisk}
+use Rattle.lu_core.specs.Played.{SomeRose}
 use Rattle.lu_top.specs.Outcomes.{held_by, Tells}
 use Rattle.lu_top.specs.declared.status.Status.{Status}
 use Rattle.lu_top.specs.declared.scenes.Refusal.TheVariants as refusal
@@ -18,14 +18,16 @@ pub returns-in-Ok-clause-storm : goal.returns-in-Ok-clause-storm
 returns-in-Ok-clause-storm g c =
     wrote_storm c.args.performance (g.S.Source.left c.args.source.now) (g.S.Source.left c.scene_of.new.source)
     (held_by g.D.Disk.batches g.D.Disk.faults c.perform.new.disks.items)
-    (g.K.Sink.holds c.args.sink.now) (g.K.Sink.holds c.perform.new.sink) (g.K.Sink.faults c.args.sink.now) (g.K.Sink.faults c.perform.new.sink)
+    (g.K.Sink.holds c.args.sink.now) (g.K.Sink.holds c.perform.new.sink) (g.K.Sink.faults c.args.sink.now)
+    (g.K.Sink.faults c.perform.new.sink)
     c.in-Ok.scene c.in-Ok.ensures.scene c.perform.result c.perform.ensures.outcome
 
 pub returns-in-Ok-clause-disk_fault : goal.returns-in-Ok-clause-disk_fault
 returns-in-Ok-clause-disk_fault g c =
     disk_failed c.args.performance (g.S.Source.left c.args.source.now) (g.S.Source.left c.scene_of.new.source)
     (held_by g.D.Disk.batches g.D.Disk.faults c.perform.new.disks.items)
-    (g.K.Sink.holds c.args.sink.now) (g.K.Sink.holds c.perform.new.sink) (g.K.Sink.faults c.args.sink.now) (g.K.Sink.faults c.perform.new.sink)
+    (g.K.Sink.holds c.args.sink.now) (g.K.Sink.holds c.perform.new.sink) (g.K.Sink.faults c.args.sink.now)
+    (g.K.Sink.faults c.perform.new.sink)
     c.in-Ok.scene c.in-Ok.ensures.scene c.perform.result c.perform.ensures.outcome
 
 pub returns-in-Ok-clause-done : goal.returns-in-Ok-clause-done

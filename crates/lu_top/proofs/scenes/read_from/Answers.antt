@@ -19,4 +19,5 @@ pub returns-in-Err-Bad-clause-only : goal.returns-in-Err-Bad-clause-only
 returns-in-Err-Bad-clause-only g c = λ text scene given is.
     let same = c.as_slice.ensures.same ∙ read_is _ _ c.in-Ok.text text c.in-Ok.ensures.whole given.bytes in
     let there = c.read_scene.ensures.only scene (subst (λ (t : List ℕ). IsScene t scene) (sym same) is) in
-    absurd (not_refused c.read_scene.result c.in-Err-Bad.line c.in-Err-Bad.fault scene (rw c.in-Err-Bad.field-0-is at c.in-Err-Bad.is) there)
+    absurd (not_refused c.read_scene.result c.in-Err-Bad.line c.in-Err-Bad.fault scene (rw c.in-Err-Bad.field-0-is at c.in-Err-Bad.is)
+    there)

@@ -16,13 +16,15 @@ pub returns-in-Ok-Some-Perform-clause-performed : goal.returns-in-Ok-Some-Perfor
 returns-in-Ok-Some-Perform-clause-performed g c = λ text scene says given is.
     let which = c.in-Ok-Some-Perform in
     let said = rw (which.field-0-is, which.field-0-0-is) at which.ensures.some in
-    c.perform_asked.ensures.performed text scene (one_performance (map string_bytes c.args.words.now) which.performance Play said says) given is
+    c.perform_asked.ensures.performed text scene (one_performance (map string_bytes c.args.words.now) which.performance Play said says)
+    given is
 
 pub returns-in-Ok-Some-Perform-clause-done : goal.returns-in-Ok-Some-Perform-clause-done
 returns-in-Ok-Some-Perform-clause-done g c = λ text scene says given is bare quiet calm sound.
     let which = c.in-Ok-Some-Perform in
     let said = rw (which.field-0-is, which.field-0-0-is) at which.ensures.some in
-    c.perform_asked.ensures.done text scene (one_performance (map string_bytes c.args.words.now) which.performance Play said says) given is bare quiet calm sound
+    c.perform_asked.ensures.done text scene (one_performance (map string_bytes c.args.words.now) which.performance Play said says) given is
+    bare quiet calm sound
 
 pub returns-in-Ok-Some-Perform-clause-written : goal.returns-in-Ok-Some-Perform-clause-written
 returns-in-Ok-Some-Perform-clause-written g c = λ done.
@@ -50,13 +52,16 @@ pub returns-in-Ok-None-clause-refused : goal.returns-in-Ok-None-clause-refused
 returns-in-Ok-None-clause-refused g c = λ text says. absurd ((rw c.in-Ok-None.field-0-is at c.in-Ok-None.ensures.none) (Perform Play) says)
 
 pub returns-in-Ok-None-clause-performed : goal.returns-in-Ok-None-clause-performed
-returns-in-Ok-None-clause-performed g c = λ text scene says. absurd ((rw c.in-Ok-None.field-0-is at c.in-Ok-None.ensures.none) (Perform Play) says)
+returns-in-Ok-None-clause-performed g c = λ text scene says. absurd
+    ((rw c.in-Ok-None.field-0-is at c.in-Ok-None.ensures.none) (Perform Play) says)
 
 pub returns-in-Ok-None-clause-done : goal.returns-in-Ok-None-clause-done
-returns-in-Ok-None-clause-done g c = λ text scene says. absurd ((rw c.in-Ok-None.field-0-is at c.in-Ok-None.ensures.none) (Perform Play) says)
+returns-in-Ok-None-clause-done g c = λ text scene says. absurd ((rw c.in-Ok-None.field-0-is at c.in-Ok-None.ensures.none) (Perform Play)
+    says)
 
 pub returns-in-Ok-None-clause-storm_performed : goal.returns-in-Ok-None-clause-storm_performed
-returns-in-Ok-None-clause-storm_performed g c = λ seed says. absurd ((rw c.in-Ok-None.field-0-is at c.in-Ok-None.ensures.none) (Perform (Storm seed)) says)
+returns-in-Ok-None-clause-storm_performed g c = λ seed says. absurd
+    ((rw c.in-Ok-None.field-0-is at c.in-Ok-None.ensures.none) (Perform (Storm seed)) says)
 
 pub returns-in-Ok-None-clause-judge_answers : goal.returns-in-Ok-None-clause-judge_answers
 returns-in-Ok-None-clause-judge_answers g c = λ says. absurd ((rw c.in-Ok-None.field-0-is at c.in-Ok-None.ensures.none) Judge says)

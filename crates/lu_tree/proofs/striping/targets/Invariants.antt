@@ -1,6 +1,6 @@
 -- The targets so far are those of the first stripes.
 use Rattle.std.proofs.Common.{◌≡◌, take, length}
-use Rattle.lu_machine.specs.Striping.{stripe_targets}
+use Rattle.lu_spec_machine.specs.Striping.{stripe_targets}
 use Rattle.lu_tree.proofs.striping.targets.Given as goal
 
 abbrev pub invariant-loop-stripe : goal.invariant-loop-stripe

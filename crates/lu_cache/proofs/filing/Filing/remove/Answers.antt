@@ -10,4 +10,5 @@ use Rattle.lu_cache.proofs.filing.Filing.remove.Goals as goal
 pub returns-clause-gone : goal.returns-clause-gone
 returns-clause-gone g c = λ l d.
     ap (λ rows. in_row (lookup (g.K.PartialEq.eq l) rows) d) (c.get_mut.follows.holds c.remove.new.self).0
-    ∙ refiled_row g.K.PartialEq.eq g.met.K.Eq.laws c.args.key.now l c.args.cookie d None c.args.self.now.rows.entries c.in_ok-row.row.now c.remove.new.self (sym c.in_ok-row.ensures.value) c.remove.ensures.updates.0
+    ∙ refiled_row g.K.PartialEq.eq g.met.K.Eq.laws c.args.key.now l c.args.cookie d None c.args.self.now.rows.entries c.in_ok-row.row.now
+    c.remove.new.self (sym c.in_ok-row.ensures.value) c.remove.ensures.updates.0

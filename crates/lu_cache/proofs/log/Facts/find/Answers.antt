@@ -20,8 +20,11 @@ returns-in_err-cookies g c =
     let log = c.self.inside.log.entries in
     record {
       found = λ n seen.
-          ap (λ o. option_map row_fact (option_copied o)) c.from_residual.ensures ∙ none_filed t may_use log c.self.invariant.rising (λ d. ap (λ o. in_row o d) c.in_err-cookies.ensures.row ∙ c.self.invariant.topics t d)
-          ∙ ap (λ (l : Log). fact_under (part_of t) may_use (facts_of l)) c.self.view_is ∙ seen_under (part_of t) may_use (facts_of c.args.self.now) n seen;
+          ap (λ o. option_map row_fact (option_copied o)) c.from_residual.ensures
+          ∙ none_filed t may_use log c.self.invariant.rising
+          (λ d. ap (λ o. in_row o d) c.in_err-cookies.ensures.row ∙ c.self.invariant.topics t d)
+          ∙ ap (λ (l : Log). fact_under (part_of t) may_use (facts_of l)) c.self.view_is
+          ∙ seen_under (part_of t) may_use (facts_of c.args.self.now) n seen;
     }
 
 pub returns-in_err-number : goal.returns-in_err-number
@@ -31,8 +34,12 @@ returns-in_err-number g c =
     let log = c.self.inside.log.entries in
     record {
       found = λ n seen.
-          ap (λ o. option_map row_fact (option_copied o)) c.from_residual-in_err-number.ensures ∙ none_chosen t may_use log c.self.invariant.rising c.in_ok-cookies.cookies.now (λ d. ap (λ o. in_row o d) c.in_ok-cookies.ensures.row ∙ c.self.invariant.topics t d) c.first_usable.ensures.sorted (sym c.in_err-number.ensures.first)
-          ∙ ap (λ (l : Log). fact_under (part_of t) may_use (facts_of l)) c.self.view_is ∙ seen_under (part_of t) may_use (facts_of c.args.self.now) n seen;
+          ap (λ o. option_map row_fact (option_copied o)) c.from_residual-in_err-number.ensures
+          ∙ none_chosen t may_use log c.self.invariant.rising c.in_ok-cookies.cookies.now
+          (λ d. ap (λ o. in_row o d) c.in_ok-cookies.ensures.row ∙ c.self.invariant.topics t d) c.first_usable.ensures.sorted
+          (sym c.in_err-number.ensures.first)
+          ∙ ap (λ (l : Log). fact_under (part_of t) may_use (facts_of l)) c.self.view_is
+          ∙ seen_under (part_of t) may_use (facts_of c.args.self.now) n seen;
     }
 
 pub returns : goal.returns
@@ -43,6 +50,9 @@ returns g c =
     record {
       found = λ n seen.
           ap (option_map row_fact) (c.get.ensures.value ∙ looked_up c.in_ok-number.number.now log)
-          ∙ chosen t may_use log c.self.invariant.rising c.in_ok-cookies.cookies.now (λ d. ap (λ o. in_row o d) c.in_ok-cookies.ensures.row ∙ c.self.invariant.topics t d) c.first_usable.ensures.sorted (c.in_ok-number.field-0-0.now, c.in_ok-number.number.now) (sym c.in_ok-number.ensures.first)
-          ∙ ap (λ (l : Log). fact_under (part_of t) may_use (facts_of l)) c.self.view_is ∙ seen_under (part_of t) may_use (facts_of c.args.self.now) n seen;
+          ∙ chosen t may_use log c.self.invariant.rising c.in_ok-cookies.cookies.now
+          (λ d. ap (λ o. in_row o d) c.in_ok-cookies.ensures.row ∙ c.self.invariant.topics t d) c.first_usable.ensures.sorted
+          (c.in_ok-number.field-0-0.now, c.in_ok-number.number.now) (sym c.in_ok-number.ensures.first)
+          ∙ ap (λ (l : Log). fact_under (part_of t) may_use (facts_of l)) c.self.view_is
+          ∙ seen_under (part_of t) may_use (facts_of c.args.self.now) n seen;
     }

@@ -1,5 +1,5 @@
 use Rattle.std.proofs.Common.{◌≡◌, refl, ◌∙◌}
-use Rattle.lu_client_rows.specs.Advances.{cuts}
+use Rattle.lu_spec_client.specs.Advances.{cuts}
 use Rattle.lu_client_store.specs.Stored.{stored_turn}
 use Rattle.lu_call.specs.Views.{work_of}
 use Rattle.lu_call.proofs.Acting.{acts_cut}

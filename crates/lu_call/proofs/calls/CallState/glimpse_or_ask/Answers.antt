@@ -13,11 +13,16 @@ returns-in-Some c =
     first_is c.args.work.left.items c.index-wanted.result.now c.requires.some c.index-wanted.ensures in
     record {
       goes = if_ok c.glimpse_come.result _ _ c.glimpse_come.ensures.goes
-          (λ out goes slot. goes_as (serves_as_came c.args.at slot c.index-wanted.result.now c.in-Some.lock c.args.work.left.items c.args.sizes c.args.self.now (work_of c.args.work) c.args.store.now.store first (sym c.in-Some.ensures.serving)) (goes slot));
+          (λ out goes slot. goes_as (serves_as_came c.args.at slot c.index-wanted.result.now c.in-Some.lock c.args.work.left.items
+          c.args.sizes c.args.self.now (work_of c.args.work) c.args.store.now.store first (sym c.in-Some.ensures.serving)) (goes slot));
     }
 
 pub returns-in-None : goal.returns-in-None
 returns-in-None c =
     let first : c.args.work.left.items ≡ c.index-wanted.result.now ∷ drop 1 c.args.work.left.items =
     first_is c.args.work.left.items c.index-wanted.result.now c.requires.some c.index-wanted.ensures in
-    record { goes = λ slot. goes_as (asks_for_lock c.args.at slot c.index-wanted.result.now c.args.work.left.items c.args.sizes c.args.self.now (work_of c.args.work) c.args.store.now.store first (sym c.in-None.ensures.serving)) (c.ask_lock.ensures.asks slot c.args.store.now) }
+    record {
+      goes = λ slot. goes_as (asks_for_lock c.args.at slot c.index-wanted.result.now c.args.work.left.items c.args.sizes
+          c.args.self.now (work_of c.args.work) c.args.store.now.store first (sym c.in-None.ensures.serving))
+          (c.ask_lock.ensures.asks slot c.args.store.now);
+    }

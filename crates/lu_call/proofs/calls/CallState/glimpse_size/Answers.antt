@@ -15,5 +15,6 @@ returns c =
     let shorter : c.pop_front.new.self.items ≡ drop 1 c.args.work.left.items = search rules in
     record {
       goes = if_ok c.glimpse.result _ _ c.glimpse.ensures.goes
-          (λ out goes slot. goes_heard c.args.at c.args.size c.args.work.left.items c.pop_front.new.self.items c.args.sizes c.push.new.self c.args.self.now (work_of c.args.work) c.requires.some shorter c.in_ok-push.ensures.added (goes slot));
+          (λ out goes slot. goes_heard c.args.at c.args.size c.args.work.left.items c.pop_front.new.self.items c.args.sizes c.push.new.self
+          c.args.self.now (work_of c.args.work) c.requires.some shorter c.in_ok-push.ensures.added (goes slot));
     }

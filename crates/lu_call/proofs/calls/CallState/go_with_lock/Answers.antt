@@ -8,12 +8,15 @@ pub returns-then-is_glimpse : goal.returns-then-is_glimpse
 returns-then-is_glimpse c =
     record {
       goes = if_ok c.glimpse_come.result _ _ c.glimpse_come.ensures.goes
-          (λ out goes slot. glimpsing_comes c.args.at slot c.args.self.now (work_of c.args.work) (work_of c.take_sizes-sizes.new.self) c.args.lock c.take_sizes-sizes.result (sym c.if-is_glimpse.ensures.glimpse) c.take_sizes-sizes.ensures.sizes c.take_sizes-sizes.ensures.rest (goes slot));
+          (λ out goes slot. glimpsing_comes c.args.at slot c.args.self.now (work_of c.args.work) (work_of c.take_sizes-sizes.new.self)
+          c.args.lock c.take_sizes-sizes.result (sym c.if-is_glimpse.ensures.glimpse) c.take_sizes-sizes.ensures.sizes
+          c.take_sizes-sizes.ensures.rest (goes slot));
     }
 
 pub returns : goal.returns
 returns c =
     record {
       goes = if_ok c.come_and_act.result _ _ c.come_and_act.ensures.goes
-          (λ out goes slot. acting_comes c.args.at slot c.args.self.now (work_of c.args.work) c.args.lock (sym c.if-is_glimpse.ensures.glimpse) (goes slot));
+          (λ out goes slot. acting_comes c.args.at slot c.args.self.now (work_of c.args.work) c.args.lock
+          (sym c.if-is_glimpse.ensures.glimpse) (goes slot));
     }

@@ -7,5 +7,6 @@ pub returns : goal.returns
 returns c =
     record {
       goes = if_ok c.glimpse_size.result _ _ c.glimpse_size.ensures.goes
-          (λ out goes slot. sized_on c.args.at slot c.args.self.now (work_of c.args.work) (work_of c.take_sizes-sizes.new.self) c.args.size c.take_sizes-sizes.result c.take_sizes-sizes.ensures.sizes c.take_sizes-sizes.ensures.rest (goes slot));
+          (λ out goes slot. sized_on c.args.at slot c.args.self.now (work_of c.args.work) (work_of c.take_sizes-sizes.new.self) c.args.size
+          c.take_sizes-sizes.result c.take_sizes-sizes.ensures.sizes c.take_sizes-sizes.ensures.rest (goes slot));
     }

@@ -1,6 +1,6 @@
 -- The locks so far are pinned.
 use Rattle.std.proofs.Common.{◌≡◌, take}
-use Rattle.lu_client_rows.specs.Starts.{pins, with_pins}
+use Rattle.lu_spec_client.specs.Starts.{pins, with_pins}
 use Rattle.lu_client_store.specs.Stored.{stored_turn}
 use Rattle.lu_call.specs.Starting.{names_with}
 use Rattle.lu_call.proofs.calls.CallState.pin_all.Given as goal

@@ -8,5 +8,7 @@ use Rattle.lu_callback.proofs.callbacks.Callbacks.due.Goals as goal
 
 pub returns-clause-rising : goal.returns-clause-rising
 returns-clause-rising c =
-    let told : c.from.result ≡ due c.args.tick c.args.age (all_asked c.self.inside.holders.entries) = c.from.ensures ∙ c.in_ok-cookies.ensures in
-    subst (AllPairs (λ earlier later. earlier.0 < later.0)) (sym told) (due_rises c.args.tick c.args.age (all_asked c.self.inside.holders.entries) c.self.invariant.sound.ordered)
+    let told : c.from.result ≡ due c.args.tick c.args.age (all_asked c.self.inside.holders.entries) = c.from.ensures
+    ∙ c.in_ok-cookies.ensures in
+    subst (AllPairs (λ earlier later. earlier.0 < later.0)) (sym told)
+    (due_rises c.args.tick c.args.age (all_asked c.self.inside.holders.entries) c.self.invariant.sound.ordered)

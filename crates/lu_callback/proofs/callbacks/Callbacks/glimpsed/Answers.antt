@@ -23,11 +23,15 @@ returns-in_default-clause-sound c = (invariant_of-self c).sound
 pub invariant_of-self-2 : goal.invariant_of-self-2
 invariant_of-self-2 c =
     let found : lookup (at c.args.cookie) c.self.inside.holders.entries ≡ Some c.in-Some.holder.now = sym c.in-Some.ensures.value in
-    (all_forgot c.args.cookie (Glimpse c.args.who c.args.xid) c.in-Some.holder.now c.self.inside.holders.entries _ c.self.invariant found ((c.get_mut.follows.holds c.forget.new.self).0 ∙ ap (set_value (at c.args.cookie) c.self.inside.holders.entries) c.forget.ensures.forgot)).held
+    (all_forgot c.args.cookie (Glimpse c.args.who c.args.xid) c.in-Some.holder.now c.self.inside.holders.entries _ c.self.invariant found
+    ((c.get_mut.follows.holds c.forget.new.self).0 ∙ ap (set_value (at c.args.cookie) c.self.inside.holders.entries)
+    c.forget.ensures.forgot)).held
 
 pub returns-clause-without : goal.returns-clause-without
 returns-clause-without c =
     let found : lookup (at c.args.cookie) c.self.inside.holders.entries ≡ Some c.in-Some.holder.now = sym c.in-Some.ensures.value in
     c.let_go.ensures.same
-    ∙ (all_forgot c.args.cookie (Glimpse c.args.who c.args.xid) c.in-Some.holder.now c.self.inside.holders.entries _ c.self.invariant found ((c.get_mut.follows.holds c.forget.new.self).0 ∙ ap (set_value (at c.args.cookie) c.self.inside.holders.entries) c.forget.ensures.forgot)).all
+    ∙ (all_forgot c.args.cookie (Glimpse c.args.who c.args.xid) c.in-Some.holder.now c.self.inside.holders.entries _ c.self.invariant found
+    ((c.get_mut.follows.holds c.forget.new.self).0 ∙ ap (set_value (at c.args.cookie) c.self.inside.holders.entries)
+    c.forget.ensures.forgot)).all
     ∙ ap (without_glimpse c.args.cookie c.args.who c.args.xid) c.self.view_is

@@ -10,10 +10,12 @@ use Rattle.lu_callback.proofs.callbacks.Callbacks.is_outstanding.Goals as goal
 pub returns-in-Some-clause-outstanding : goal.returns-in-Some-clause-outstanding
 returns-in-Some-clause-outstanding c =
     c.has.ensures.has
-    ∙ sym (any_is c.args.cookie c.args.kind 0 c.self.inside.holders.entries c.self.invariant.filed ∙ ap (λ found. option_map_or (list_any (of_kind c.args.kind)) found false) (sym c.in-Some.ensures.value))
+    ∙ sym (any_is c.args.cookie c.args.kind 0 c.self.inside.holders.entries c.self.invariant.filed
+    ∙ ap (λ found. option_map_or (list_any (of_kind c.args.kind)) found false) (sym c.in-Some.ensures.value))
     ∙ ap (is_outstanding c.args.cookie c.args.kind) c.self.view_is
 
 pub returns-in-None-clause-outstanding : goal.returns-in-None-clause-outstanding
 returns-in-None-clause-outstanding c =
-    sym (any_is c.args.cookie c.args.kind 0 c.self.inside.holders.entries c.self.invariant.filed ∙ ap (λ found. option_map_or (list_any (of_kind c.args.kind)) found false) (sym c.in-None.ensures.value))
+    sym (any_is c.args.cookie c.args.kind 0 c.self.inside.holders.entries c.self.invariant.filed
+    ∙ ap (λ found. option_map_or (list_any (of_kind c.args.kind)) found false) (sym c.in-None.ensures.value))
     ∙ ap (is_outstanding c.args.cookie c.args.kind) c.self.view_is

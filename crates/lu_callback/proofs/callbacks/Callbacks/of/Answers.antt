@@ -17,11 +17,13 @@ returns-in-Some-clause-asked c =
     let under : of_lock c.args.cookie (all_asked c.self.inside.holders.entries) ≡ c.in-Some.holder.now =
     of_found c.args.cookie c.self.inside.holders.entries (Some c.in-Some.holder.now) c.self.invariant c.in-Some.ensures.value in
     c.kind_at.ensures.kind
-    ∙ ap (λ (xs : List Asked). option_map (λ asked. asked.kind) (slice_get xs c.args.at)) (sym under ∙ ap (of_lock c.args.cookie) c.self.view_is)
+    ∙ ap (λ (xs : List Asked). option_map (λ asked. asked.kind) (slice_get xs c.args.at))
+    (sym under ∙ ap (of_lock c.args.cookie) c.self.view_is)
 
 pub returns-in-None-clause-asked : goal.returns-in-None-clause-asked
 returns-in-None-clause-asked c =
     let under : of_lock c.args.cookie (all_asked c.self.inside.holders.entries) ≡ [] =
     of_found c.args.cookie c.self.inside.holders.entries None c.self.invariant c.in-None.ensures.value in
     no_kind c.args.at
-    ∙ ap (λ (xs : List Asked). option_map (λ asked. asked.kind) (slice_get xs c.args.at)) (sym under ∙ ap (of_lock c.args.cookie) c.self.view_is)
+    ∙ ap (λ (xs : List Asked). option_map (λ asked. asked.kind) (slice_get xs c.args.at))
+    (sym under ∙ ap (of_lock c.args.cookie) c.self.view_is)

@@ -6,5 +6,6 @@ use Rattle.lu_callback.proofs.holders.Holder.forget.Goals as goal
 
 pub returns : goal.returns
 returns c =
-    let kept : c.retain.new.self.items ≡ filter (λ asked. not (of_kind c.args.kind asked)) c.self.inside.asked.items = filter_same _ _ _ (λ x b f' k. search rules) _ _ c.retain.ensures.filtered in
+    let kept : c.retain.new.self.items ≡ filter (λ asked. not (of_kind c.args.kind asked)) c.self.inside.asked.items =
+    filter_same _ _ _ (λ x b f' k. search rules) _ _ c.retain.ensures.filtered in
     record { forgot = kept ∙ ap (filter (λ asked. not (of_kind c.args.kind asked))) c.self.view_is }

@@ -1,6 +1,6 @@
 -- The bytes so far are read.
 use Rattle.std.proofs.Common.{◌≡◌, ◌-◌, ◌≤◌}
-use Rattle.lu_client_rows.specs.Looks.{content}
+use Rattle.lu_spec_client.specs.Looks.{content}
 use Rattle.lu_client_store.proofs.store.Store.content.Given as goal
 
 abbrev pub invariant-loop-done : goal.invariant-loop-done

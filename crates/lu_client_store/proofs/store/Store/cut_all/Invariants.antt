@@ -1,6 +1,6 @@
 -- The entries still to come lead to what all of them lead to.
 use Rattle.std.proofs.Common.{◌≡◌, drop}
-use Rattle.lu_client_rows.specs.Advances.{cuts}
+use Rattle.lu_spec_client.specs.Advances.{cuts}
 use Rattle.lu_client_store.specs.Stored.{stored_turn}
 use Rattle.lu_client_store.proofs.store.Store.cut_all.Given as goal
 

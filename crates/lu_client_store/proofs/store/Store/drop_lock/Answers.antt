@@ -7,5 +7,7 @@ use Rattle.lu_client_store.proofs.store.Store.drop_lock.Goals as goal
 
 pub invariant_of-self : goal.invariant_of-self
 invariant_of-self c =
-    let before : AreShort c.forget_names.new.cache.sizes = subst (λ (k : Cached). AreShort k.sizes) (sym c.forget_names.ensures.forgotten) c.self.invariant in
-    subst (λ (k : Cached). AreShort k.sizes) (sym c.forget_range.ensures.forgotten) (short_forgotten c.args.lock.now.ask.policy c.args.lock.now c.forget_names.new.cache.sizes before)
+    let before : AreShort c.forget_names.new.cache.sizes = subst (λ (k : Cached). AreShort k.sizes) (sym c.forget_names.ensures.forgotten)
+    c.self.invariant in
+    subst (λ (k : Cached). AreShort k.sizes) (sym c.forget_range.ensures.forgotten)
+    (short_forgotten c.args.lock.now.ask.policy c.args.lock.now c.forget_names.new.cache.sizes before)

@@ -1,5 +1,5 @@
 -- A change that lies below 2^40 makes no size greater.
-use Rattle.lu_words.specs.Words.{Grown}
+use Rattle.lu_spec_entries.specs.Words.{Grown}
 use Rattle.lu_cache.specs.Cached.{cache_after}
 use Rattle.lu_client_store.proofs.Short.{short_then, short_grown, fits_in_file}
 use Rattle.lu_client_store.proofs.store.Store.grow.Goals as goal

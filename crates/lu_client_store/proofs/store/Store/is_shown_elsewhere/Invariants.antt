@@ -3,7 +3,7 @@ use Rattle.std.proofs.Common.{◌≡◌, ◌-◌, length, drop}
 use Rattle.std.specs.Vec.{vec_len}
 use Rattle.lu_held.specs.declared.locks.Wanted.TheVariants.{Holding}
 use Rattle.lu_held.specs.Held.{those}
-use Rattle.lu_client_rows.specs.Looks.{shown_elsewhere}
+use Rattle.lu_spec_client.specs.Looks.{shown_elsewhere}
 use Rattle.lu_client_store.proofs.store.Store.is_shown_elsewhere.Given as goal
 
 abbrev pub invariant-loop-lock : goal.invariant-loop-lock

@@ -2,7 +2,7 @@
 use Rattle.std.proofs.Common.{◌≡◌, ℕ, ◌≤◌, ◌^◌, take, length}
 use Rattle.std.specs.Prelude.{All, map}
 use Rattle.std.specs.List.{range_with_len}
-use Rattle.lu_client_rows.specs.Looks.{size_on}
+use Rattle.lu_spec_client.specs.Looks.{size_on}
 use Rattle.lu_client_store.proofs.store.Store.put_sizes.Given as goal
 
 abbrev pub invariant-loop-stripe : goal.invariant-loop-stripe

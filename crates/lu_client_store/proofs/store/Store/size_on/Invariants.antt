@@ -1,6 +1,6 @@
 -- The size is that under the locks from here on.
 use Rattle.std.proofs.Common.{◌≡◌, drop}
-use Rattle.lu_client_rows.specs.Looks.{size_on}
+use Rattle.lu_spec_client.specs.Looks.{size_on}
 use Rattle.lu_client_store.proofs.store.Store.size_on.Given as goal
 
 abbrev pub invariant-loop-one : goal.invariant-loop-one

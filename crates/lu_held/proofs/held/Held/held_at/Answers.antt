@@ -8,5 +8,6 @@ use Rattle.lu_held.proofs.held.Held.held_at.Goals as goal
 
 pub returns-clause-held : goal.returns-clause-held
 returns-clause-held c =
-    let there : option_map name_of (slice_get (those c.args.wanted c.args.self.now.locks) c.args.at) ≡ Some c.in_ok-name.name = search rules in
+    let there : option_map name_of (slice_get (those c.args.wanted c.args.self.now.locks) c.args.at) ≡ Some c.in_ok-name.name = search rules
+    in
     c.held.ensures.held ∙ found_at c.args.wanted c.args.self.now.locks c.args.at c.in_ok-name.name c.name_at.ensures.sound there

@@ -12,5 +12,6 @@ pub returns-clause-ready : goal.returns-clause-ready
 returns-clause-ready c =
     c.in_ok-locks_among.ensures
     ∙ ap (filter_map (asked Ready c.self.inside.uses.entries)) c.as_slice-marked.ensures.value
-    ∙ listed_marked Ready c.self.inside.names.keys c.self.inside.uses.entries c.self.inside.marked.items (vec_capacity c.self.inside.marked) c.self.inside.free refl c.self.invariant.kept c.self.invariant.indexed
+    ∙ listed_marked Ready c.self.inside.names.keys c.self.inside.uses.entries c.self.inside.marked.items (vec_capacity c.self.inside.marked)
+    c.self.inside.free refl c.self.invariant.kept c.self.invariant.indexed
     ∙ ap (λ state. those Ready state.locks) c.self.view_is

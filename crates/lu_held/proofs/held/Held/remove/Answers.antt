@@ -20,7 +20,9 @@ returns-in_default-clause-held c =
 pub returns-in_default-clause-without : goal.returns-in_default-clause-without
 returns-in_default-clause-without c =
     let name = named c.args.target c.args.cookie in
-    rw c.pop.ensures.entries (ap (λ locks. the_state c.self.inside.unused locks) (values_removed name c.self.inside.uses.entries c.self.invariant.kept.keyed c.self.invariant.kept.once) ∙ ap (λ state. (the_state state.unused (without name state.locks))) c.self.view_is)
+    rw c.pop.ensures.entries (ap (λ locks. the_state c.self.inside.unused locks)
+    (values_removed name c.self.inside.uses.entries c.self.invariant.kept.keyed c.self.invariant.kept.once)
+    ∙ ap (λ state. (the_state state.unused (without name state.locks))) c.self.view_is)
 
 pub invariant_of-self : goal.invariant_of-self
 invariant_of-self c =
@@ -38,7 +40,8 @@ pub returns-in_default-clause-sound : goal.returns-in_default-clause-sound
 returns-in_default-clause-sound c = (invariant_of-self c).kept.sound
 
 pub remark-requires-clause-order : goal.remark-requires-clause-order
-remark-requires-clause-order c = subst (AllPairs IsEarlier) (sym c.self.invariant.indexed.marked) (marks_rise (values_of c.self.inside.uses.entries) c.self.invariant.kept.sound)
+remark-requires-clause-order c = subst (AllPairs IsEarlier) (sym c.self.invariant.indexed.marked)
+    (marks_rise (values_of c.self.inside.uses.entries) c.self.invariant.kept.sound)
 
 pub invariant_of-self-2 : goal.invariant_of-self-2
 invariant_of-self-2 c =
@@ -51,7 +54,8 @@ invariant_of-self-2 c =
       kept = rw (c.remove.ensures.keys, c.pop.ensures.entries) (kept_removed names name entries c.self.invariant.kept);
       room = rw c.pop.ensures.entries c.self.invariant.room;
       indexed = rw (c.pop.ensures.entries, c.remark.ensures.names, c.recounted-self-inside.ensures, c.is_free.ensures)
-          (indexed_popped names name entries c.in-Some.held marked.items (vec_capacity marked) (vec_capacity c.remark.new.marked) c.self.inside.free c.self.invariant.kept there c.remark.ensures.larger c.self.invariant.indexed);
+          (indexed_popped names name entries c.in-Some.held marked.items (vec_capacity marked) (vec_capacity c.remark.new.marked)
+          c.self.inside.free c.self.invariant.kept there c.remark.ensures.larger c.self.invariant.indexed);
     }
 
 pub returns-clause-held : goal.returns-clause-held
@@ -64,7 +68,9 @@ returns-clause-held c =
 pub returns-clause-without : goal.returns-clause-without
 returns-clause-without c =
     let name = named c.args.target c.args.cookie in
-    rw c.pop.ensures.entries (ap (λ locks. the_state c.self.inside.unused locks) (values_removed name c.self.inside.uses.entries c.self.invariant.kept.keyed c.self.invariant.kept.once) ∙ ap (λ state. (the_state state.unused (without name state.locks))) c.self.view_is)
+    rw c.pop.ensures.entries (ap (λ locks. the_state c.self.inside.unused locks)
+    (values_removed name c.self.inside.uses.entries c.self.invariant.kept.keyed c.self.invariant.kept.once)
+    ∙ ap (λ state. (the_state state.unused (without name state.locks))) c.self.view_is)
 
 pub returns-clause-sound : goal.returns-clause-sound
 returns-clause-sound c = (invariant_of-self-2 c).kept.sound

@@ -27,7 +27,8 @@ returns-clause-heard c =
     let old = c.self.inside in
     let found : request_of reply.xid.0 old.in_flight.items ≡ Some c.in-Some.request.now = search rules in
     let there : has_number reply.xid.0 old.in_flight.items ≡ true = number_found reply.xid.0 old.in_flight.items ∙ ap is_some found in
-    let own : (reply.who.client == old.who.client && reply.who.life == old.who.life && reply.boot == old.boot) ≡ true = search (rules, tests) in
+    let own : (reply.who.client == old.who.client && reply.who.life == old.who.life && reply.boot == old.boot) ≡ true =
+    search (rules, tests) in
     rw (← c.self.view_is, own, there) refl
 
 pub invariant_of-self-2 : goal.invariant_of-self-2

@@ -15,7 +15,9 @@ invariant_of-self-2 c =
     let within : tag ≤ length requests.items = rw (← lent) c.free_tag-tag.ensures.within in
     let idle : front_waits c.self.inside.target requests.items c.in_ok-op.op ≡ false =
     rw (c.in_ok-op.ensures.same, ← c.deref.ensures.value) (sym c.front_waits.ensures ∙ c.if-front_waits.false) in
-    let sent : c.push.new.self.items ≡ requests.items ++ record { xid = record { 0 = c.self.inside.last + 1 }; tag = tag; op = c.in_ok-op.op; slot = c.in-Some.front.now.slot } ∷ [] = c.in_ok-push.ensures.items in
+    let sent : c.push.new.self.items ≡ requests.items ++ record
+    { xid = record { 0 = c.self.inside.last + 1 }; tag = tag; op = c.in_ok-op.op; slot = c.in-Some.front.now.slot } ∷ [] =
+    c.in_ok-push.ensures.items in
     rw sent (sound_sent _ _ c.pop_front.new.self.items c.self.invariant room refl free within idle)
 
 pub returns-clause-sound : goal.returns-clause-sound

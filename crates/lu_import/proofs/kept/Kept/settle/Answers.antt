@@ -10,5 +10,6 @@ returns-clause-sound c = record {
   unsettled = left_above (λ n. n) c.max.result c.self.inside.seen.keys c.settle_numbers.new.seen.keys c.settle_numbers.ensures.settled;
   replays = c.settle_replays.ensures.rising;
   uncommitted =
-      left_above (λ (r : Replay). r.txn.0) c.max.result (replays_of c.self.inside.replays.entries) (replays_of c.settle_replays.new.replays.entries) c.settle_replays.ensures.settled;
+      left_above (λ (r : Replay). r.txn.0) c.max.result (replays_of c.self.inside.replays.entries)
+      (replays_of c.settle_replays.new.replays.entries) c.settle_replays.ensures.settled;
 }

@@ -1,9 +1,13 @@
-use Rattle.lu_laws.proofs.Tests.{clash}
+use Rattle.lu_spec_laws.proofs.Tests.{clash}
 use Rattle.lu_judge_acts.proofs.acts.Acts.may_tell.Goals as goal
 
 pub returns-then-not-is_bad_rightly : goal.returns-then-not-is_bad_rightly
 returns-then-not-is_bad_rightly c = record {
-  may = λ past shown ordered follows. (λ so. absurd (cc), λ law. absurd (clash c.is_bad_rightly.result (c.is_bad_rightly.ensures.bad.1 law.handle) c.if-not-is_bad_rightly.true));
+  may = λ past shown ordered follows. (
+    λ so. absurd (cc),
+    λ law. absurd
+        (clash c.is_bad_rightly.result (c.is_bad_rightly.ensures.bad.1 law.handle) c.if-not-is_bad_rightly.true),
+  );
 }
 
 pub returns-then-not-ends_well : goal.returns-then-not-ends_well
@@ -15,7 +19,11 @@ returns-then-not-ends_well c = record {
 
 pub returns-then-not-names_rightly : goal.returns-then-not-names_rightly
 returns-then-not-names_rightly c = record {
-  may = λ past shown ordered follows. (λ so. absurd (cc), λ law. absurd (clash c.names_rightly.result (c.names_rightly.ensures.own.1 law.own) c.if-not-names_rightly.true));
+  may = λ past shown ordered follows. (
+    λ so. absurd (cc),
+    λ law. absurd
+        (clash c.names_rightly.result (c.names_rightly.ensures.own.1 law.own) c.if-not-names_rightly.true),
+  );
 }
 
 pub returns : goal.returns

@@ -1,6 +1,6 @@
 use Rattle.std.proofs.lemmas.Result.{on_ok_weaker}
-use Rattle.lu_laws.specs.Words.Lives.{is_gone}
-use Rattle.lu_laws.specs.Words.Lost.{is_lost}
+use Rattle.lu_spec_laws.specs.Words.Lives.{is_gone}
+use Rattle.lu_spec_laws.specs.Words.Lost.{is_lost}
 use Rattle.lu_judge_acts.specs.Shown.{whole_of}
 use Rattle.lu_judge_acts.proofs.Flown.{all_fly}
 use Rattle.lu_judge_acts.proofs.acts.ActsJudge.step.Goals as goal

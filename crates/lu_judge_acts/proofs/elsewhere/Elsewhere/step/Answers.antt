@@ -9,6 +9,7 @@ returns-in-Client c = record {
   shows =
       on_ok_weaker c.tell.result
       (λ shows. λ past ordered follows ledger shown.
-      subst (λ (e : Entry). ShowsTold c.tell.new.self (record { at = c.args.line.now.at; entry = e } ∷ past)) (sym c.in-Told.is) (shows past ordered follows ledger shown c.in-Told.slot c.in-Told.answer))
+      subst (λ (e : Entry). ShowsTold c.tell.new.self (record { at = c.args.line.now.at; entry = e } ∷ past)) (sym c.in-Told.is)
+      (shows past ordered follows ledger shown c.in-Told.slot c.in-Told.answer))
       c.tell.ensures.shows;
 }

@@ -8,7 +8,8 @@ use Rattle.lu_judge_acts.proofs.flights.Flights.send.Goals as goal
 pub returns-then-not-adds : goal.returns-then-not-adds
 returns-then-not-adds c = record {
   sent = record {
-    flights = λ t who. none_added (flight_in c.args.self.now) c.args.target c.args.request.now.who t who (adds c.args.self.now c.args.target c.args.request.now) _ (sym c.adds.ensures.adds ∙ c.if-not-adds.true);
+    flights = λ t who. none_added (flight_in c.args.self.now) c.args.target c.args.request.now.who t who
+        (adds c.args.self.now c.args.target c.args.request.now) _ (sym c.adds.ensures.adds ∙ c.if-not-adds.true);
     heard = refl;
   };
 }
@@ -24,7 +25,8 @@ returns c =
     ∙ adds_one (adds c.args.self.now c.args.target r) r (flight_in c.args.self.now c.args.target r.who) added in
     record {
       sent = record {
-        flights = λ t who. put_back (is_at c.args.target r.who t who) _ _ (flight_after c.args.self.now c.args.target r) _ _ _ (c.in_ok-put.ensures.put t who) (c.take-flight.ensures.rest t who) all;
+        flights = λ t who. put_back (is_at c.args.target r.who t who) _ _ (flight_after c.args.self.now c.args.target r) _ _ _
+            (c.in_ok-put.ensures.put t who) (c.take-flight.ensures.rest t who) all;
         heard = c.in_ok-put.ensures.heard ∙ c.take-flight.ensures.heard;
       };
     }

@@ -8,6 +8,7 @@ pub returns-in-Send : goal.returns-in-Send
 returns-in-Send c = record {
   shows =
       on_ok_weaker c.post.result
-      (λ shows. λ past ledger shown. subst (λ (e : Entry). ShowsFlights c.post.new.self (record { at = c.args.line.now.at; entry = e } ∷ past)) (sym c.in-Send.is) (shows past shown c.args.line.now.at c.in-Send.number))
+      (λ shows. λ past ledger shown. subst (λ (e : Entry). ShowsFlights c.post.new.self
+      (record { at = c.args.line.now.at; entry = e } ∷ past)) (sym c.in-Send.is) (shows past shown c.args.line.now.at c.in-Send.number))
       c.post.ensures.shows;
 }

@@ -10,5 +10,6 @@ returns-in_ok-insert-in-Made c =
     record {
       bindings = λ other h.
           rw (c.in-Open.is, c.in-Made.is)
-          (bind_at binding_of (is_life c.args.who other) (c.in-Open.handle == h) binding _ _ (c.in_ok-insert-in-Made.ensures.updates.0 ((other.client, other.life), h)));
+          (bind_at binding_of (is_life c.args.who other) (c.in-Open.handle == h) binding _ _
+          (c.in_ok-insert-in-Made.ensures.updates.0 ((other.client, other.life), h)));
     }

@@ -8,4 +8,7 @@ returns-in_ok-insert-in-Some c = record {
 }
 
 pub returns-in-None : goal.returns-in-None
-returns-in-None c = record { put = λ turn w x. rw c.in-None.is (at_key _ _ _ _ _ (c.remove.ensures.updates.0 ((turn.stamp.0, (w.client, w.life)), x))) }
+returns-in-None c = record {
+  put = λ turn w x. rw c.in-None.is (at_key _ _ _ _ _
+      (c.remove.ensures.updates.0 ((turn.stamp.0, (w.client, w.life)), x)));
+}

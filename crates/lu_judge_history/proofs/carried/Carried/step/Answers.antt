@@ -10,7 +10,8 @@ pub returns-in-Send : goal.returns-in-Send
 returns-in-Send c = record {
   shows = on_ok_weaker c.step.result
       (λ sent past ordered follows has limited ledger calls shown.
-      sent_shown c.args.self.now _ past c.args.line.now c.in-Send.number c.in-Send.to c.in-Send.message c.in-Send.is has shown refl refl refl (sent past shown.sent))
+      sent_shown c.args.self.now _ past c.args.line.now c.in-Send.number c.in-Send.to c.in-Send.message c.in-Send.is has shown refl refl
+      refl (sent past shown.sent))
       c.step.ensures.shows;
 }
 
@@ -36,5 +37,6 @@ pub returns-else-is_done : goal.returns-else-is_done
 returns-else-is_done c = record {
   shows = λ past ordered follows has limited ledger calls shown.
       subst (λ (e : Entry). ShowsCarried c.args.self.now (record { at = c.args.line.now.at; entry = e } ∷ past)) (sym c.in-Told.is)
-      (tell_undone c.args.self.now past shown c.args.line.now.at c.in-Told.slot c.in-Told.at c.in-Told.answer (sym c.is_done.ensures ∙ c.if-is_done.false));
+      (tell_undone c.args.self.now past shown c.args.line.now.at c.in-Told.slot c.in-Told.at c.in-Told.answer
+      (sym c.is_done.ensures ∙ c.if-is_done.false));
 }

@@ -3,11 +3,11 @@ use Rattle.std.proofs.Common.{◌≡◌, Option, sym, ap, ◌∙◌}
 use Rattle.std.specs.Option.{option_map}
 use Rattle.lu_msg.specs.declared.messages.Request.{Request}
 use Rattle.lu_msg.specs.declared.operations.Op.{Op}
-use Rattle.lu_laws.specs.Words.Lives.{is_gone}
-use Rattle.lu_laws.specs.Words.Lost.{is_lost}
-use Rattle.lu_laws.specs.Words.Requests.{asked}
-use Rattle.lu_laws.specs.Words.Histories.{request_answer, machine_of}
-use Rattle.lu_laws.specs.Laws.History.{is_accepted}
+use Rattle.lu_spec_laws.specs.Words.Lives.{is_gone}
+use Rattle.lu_spec_laws.specs.Words.Lost.{is_lost}
+use Rattle.lu_spec_laws.specs.Words.Requests.{asked}
+use Rattle.lu_spec_laws.specs.Words.Histories.{request_answer, machine_of}
+use Rattle.lu_spec_laws.specs.Laws.History.{is_accepted}
 use Rattle.lu_judge_history.specs.Shown.{whole_of}
 use Rattle.lu_judge_history.proofs.Telling.{names_lost, names_by}
 use Rattle.lu_judge_history.proofs.history.History.allows_names.Goals as goal
@@ -15,7 +15,8 @@ use Rattle.lu_judge_history.proofs.history.History.allows_names.Goals as goal
 pub returns-then-has : goal.returns-then-has
 returns-then-has c = λ past shown.
     let whole = whole_of c.args.self.now in
-    names_lost (is_gone whole) (is_lost whole) c.args.self.now.osts past c.args.txn c.args.who c.args.xid.0 (sym (c.has.ensures.lost whole shown.lost) ∙ c.if-has.true)
+    names_lost (is_gone whole) (is_lost whole) c.args.self.now.osts past c.args.txn c.args.who c.args.xid.0
+    (sym (c.has.ensures.lost whole shown.lost) ∙ c.if-has.true)
 
 pub returns : goal.returns
 returns c = λ past shown.
@@ -26,4 +27,5 @@ returns c = λ past shown.
     (sym (c.has.ensures.lost whole shown.lost) ∙ c.if-has.false)
     (c.is_accepted.ensures ∙ ap is_accepted
     (c.in_ok-answer.ensures.answer c.args.self.now.osts (is_gone whole) (is_lost whole) past shown.played
-    ∙ ap (λ (o : Option Op). request_answer c.args.self.now.osts (machine_of (is_gone whole) (is_lost whole) c.args.self.now.osts past) c.args.who c.args.txn o) asks))
+    ∙ ap (λ (o : Option Op). request_answer c.args.self.now.osts (machine_of (is_gone whole) (is_lost whole) c.args.self.now.osts past)
+    c.args.who c.args.txn o) asks))

@@ -4,9 +4,9 @@ use Rattle.std.specs.Prelude.{IsTrue, ◌↔◌}
 use Rattle.std.proofs.lemmas.Result.{IfOk-weaker}
 use Rattle.lu_base.specs.declared.ids.Node.{Node}
 use Rattle.lu_trace.specs.declared.entries.Entry.{Entry}
-use Rattle.lu_laws.specs.Words.Lives.{is_gone}
-use Rattle.lu_laws.specs.Words.Lost.{is_lost}
-use Rattle.lu_laws.specs.Laws.History.{ToldAt, ExecutedAt, HistoryAt}
+use Rattle.lu_spec_laws.specs.Words.Lives.{is_gone}
+use Rattle.lu_spec_laws.specs.Words.Lost.{is_lost}
+use Rattle.lu_spec_laws.specs.Laws.History.{ToldAt, ExecutedAt, HistoryAt}
 use Rattle.lu_judge_history.specs.Shown.{whole_of}
 use Rattle.lu_judge_history.proofs.Telling.{other_entry}
 use Rattle.lu_judge_history.proofs.history.HistoryJudge.allows.Goals as goal
@@ -19,7 +19,8 @@ returns-in-Client c = record {
       let t = c.args.self.now in
       let at = c.args.line.now.at in
       subst (λ (e : Entry). IsTrue holds ↔ HistoryAt (is_gone (whole_of t)) (is_lost (whole_of t)) t.osts past at e) (sym c.in-Told.is)
-      (subst (λ (n : Node). IsTrue holds ↔ ToldAt (is_gone (whole_of t)) (is_lost (whole_of t)) t.osts past at n c.in-Told.slot c.in-Told.at c.in-Told.answer) (sym c.in-Client.is)
+      (subst (λ (n : Node). IsTrue holds ↔ ToldAt (is_gone (whole_of t)) (is_lost (whole_of t)) t.osts past at n c.in-Told.slot c.in-Told.at
+      c.in-Told.answer) (sym c.in-Client.is)
       (is past shown given.placed.ordered given.placed.messages.order)))
       c.allows_told.ensures;
 }
@@ -32,7 +33,8 @@ returns-in-Target-node c = record {
       let t = c.args.self.now in
       let at = c.args.line.now.at in
       subst (λ (e : Entry). IsTrue holds ↔ HistoryAt (is_gone (whole_of t)) (is_lost (whole_of t)) t.osts past at e) (sym c.in-Txn.is)
-      (subst (λ (n : Node). IsTrue holds ↔ ExecutedAt (is_gone (whole_of t)) (is_lost (whole_of t)) t.osts past n c.in-Txn.txn c.in-Txn.who c.in-Txn.xid.0) (sym c.in-Target-node.is)
+      (subst (λ (n : Node). IsTrue holds ↔ ExecutedAt (is_gone (whole_of t)) (is_lost (whole_of t)) t.osts past n c.in-Txn.txn c.in-Txn.who
+      c.in-Txn.xid.0) (sym c.in-Target-node.is)
       (is past shown)))
       c.allows_txn.ensures;
 }
@@ -41,5 +43,6 @@ pub returns-in_default : goal.returns-in_default
 returns-in_default c = record {
   decided = λ past shown given.
       let t = c.args.self.now in
-      other_entry (is_gone (whole_of t)) (is_lost (whole_of t)) t.osts past c.args.line.now.at c.args.line.now.entry c.in_default.not-Told c.in_default.not-Txn;
+      other_entry (is_gone (whole_of t)) (is_lost (whole_of t)) t.osts past c.args.line.now.at c.args.line.now.entry c.in_default.not-Told
+      c.in_default.not-Txn;
 }

@@ -13,7 +13,9 @@ returns-clause-shows c =
       limits = (given.limits, shown.limits);
       ledger = led past given.placed.ordered given.placed.messages.order shown.ledger;
       calls = c.in_ok-step-3.ensures.shows past given.placed.ordered given.placed.messages.order shown.ledger shown.calls;
-      played = c.in_ok-step.ensures.shows c.args.self.now.osts (whole_of c.args.self.now) past shown.gone shown.lost shown.limits shown.ledger shown.calls shown.played;
-      carried = c.in_ok-step-2.ensures.shows past given.placed.ordered given.placed.messages.order (number_of past c.args.line.now given.placed.messages.passes) shown.limits shown.ledger shown.calls shown.carried;
+      played = c.in_ok-step.ensures.shows c.args.self.now.osts (whole_of c.args.self.now) past shown.gone shown.lost shown.limits
+          shown.ledger shown.calls shown.played;
+      carried = c.in_ok-step-2.ensures.shows past given.placed.ordered given.placed.messages.order
+          (number_of past c.args.line.now given.placed.messages.passes) shown.limits shown.ledger shown.calls shown.carried;
     })
     c.step-4.ensures.shows

@@ -4,7 +4,7 @@ use Rattle.std.specs.Option.{option_map}
 use Rattle.std.proofs.lemmas.Result.{on_ok_weaker}
 use Rattle.lu_msg.specs.declared.messages.Request.{Request}
 use Rattle.lu_msg.specs.declared.operations.Op.{Op}
-use Rattle.lu_laws.specs.Words.Histories.{none, request_answer, machine_of}
+use Rattle.lu_spec_laws.specs.Words.Histories.{none, request_answer, machine_of}
 use Rattle.lu_judge_history.proofs.Playing.{act_shown}
 use Rattle.lu_judge_history.proofs.played.Played.act.Goals as goal
 

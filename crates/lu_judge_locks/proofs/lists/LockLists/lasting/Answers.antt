@@ -14,7 +14,8 @@ returns-in-Some c =
     IfOk-weaker c.lasting_of.result _ _
     (λ lasting is.
     ap (map arrival_of) (is ∙ ap (filter (λ placed. lasts c.args.self.now c.args.target (arrival_of placed))) c.deref.ensures.value)
-    ∙ map_filter arrival_of (lasts c.args.self.now c.args.target) c.in-Some.list.now.items ∙ ap (filter (lasts c.args.self.now c.args.target)) (sym list))
+    ∙ map_filter arrival_of (lasts c.args.self.now c.args.target) c.in-Some.list.now.items
+    ∙ ap (filter (lasts c.args.self.now c.args.target)) (sym list))
     c.lasting_of.ensures
 
 pub returns-in-None : goal.returns-in-None

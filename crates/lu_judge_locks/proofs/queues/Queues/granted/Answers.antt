@@ -2,7 +2,7 @@
 use Rattle.std.proofs.Common.{◌∙◌, sym, ap, map}
 use Rattle.std.specs.Prelude.{reverse}
 use Rattle.std.proofs.lemmas.Result.{IfOk-weaker}
-use Rattle.lu_laws.specs.Words.Queues.{asks}
+use Rattle.lu_spec_laws.specs.Words.Queues.{asks}
 use Rattle.lu_judge_locks.proofs.Notions.{locks, granted_on}
 use Rattle.lu_judge_locks.proofs.Stepped.{newest_asks}
 use Rattle.lu_judge_locks.proofs.queues.Queues.granted.Goals as goal

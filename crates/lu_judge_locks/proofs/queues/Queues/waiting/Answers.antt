@@ -10,6 +10,7 @@ returns c = record {
   waiting =
       IfOk-weaker c.on.result _ _
       (λ all is. λ past shown.
-      locks_again all.items ∙ ap locks (is ∙ shown.waiting.lists.lists c.args.target c.args.resource) ∙ sym (waiting_on c.args.target c.args.resource past))
+      locks_again all.items ∙ ap locks (is ∙ shown.waiting.lists.lists c.args.target c.args.resource)
+      ∙ sym (waiting_on c.args.target c.args.resource past))
       c.on.ensures;
 }

@@ -11,7 +11,9 @@ returns c = record {
     lists = c.in_ok-add.ensures.added;
     passed = λ t cookie. refl;
     queues = λ t cookie.
-        pushed (λ list. list.items) arrival_of (c.args.target == t && c.args.placed.lock.now.cookie.0 == cookie) c.push.new.self c.new.result _ _ _ _ c.args.placed (c.in_ok-insert.ensures.updates.0 (t, cookie)) (c.remove.ensures.updates.0 (t, cookie))
-        (c.in_ok-push.ensures.items ∙ ap (λ list. list.items ++ c.args.placed ∷ []) (c.unwrap_or-queue.ensures ∙ ap (λ o. unwrap_or o c.new.result) c.remove.ensures.value)) c.new.ensures.items;
+        pushed (λ list. list.items) arrival_of (c.args.target == t && c.args.placed.lock.now.cookie.0 == cookie) c.push.new.self
+        c.new.result _ _ _ _ c.args.placed (c.in_ok-insert.ensures.updates.0 (t, cookie)) (c.remove.ensures.updates.0 (t, cookie))
+        (c.in_ok-push.ensures.items ∙ ap (λ list. list.items ++ c.args.placed ∷ [])
+        (c.unwrap_or-queue.ensures ∙ ap (λ o. unwrap_or o c.new.result) c.remove.ensures.value)) c.new.ensures.items;
   };
 }

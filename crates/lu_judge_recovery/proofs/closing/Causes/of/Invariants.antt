@@ -1,8 +1,8 @@
 use Rattle.std.proofs.Common.{◌≡◌, ℕ, ◌≤◌, ◌-◌, length, take}
 use Rattle.std.specs.Prelude.{if◌then◌else◌, Some, None}
 use Rattle.lu_base.specs.declared.ids.Who.{Who}
-use Rattle.lu_laws.specs.Words.Pasts.{Past}
-use Rattle.lu_laws.specs.Words.Closes.{cause_at}
+use Rattle.lu_spec_laws.specs.Words.Pasts.{Past}
+use Rattle.lu_spec_laws.specs.Words.Closes.{cause_at}
 use Rattle.lu_judge_recovery.specs.Closings.{KnowsClose, AreCauses}
 use Rattle.lu_judge_recovery.proofs.closing.Causes.of.Given as goal
 

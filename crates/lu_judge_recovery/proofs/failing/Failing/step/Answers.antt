@@ -1,5 +1,5 @@
 use Rattle.std.proofs.Common.{sym, ◌∙◌}
-use Rattle.lu_judge.proofs.Shown.{add}
+use Rattle.lu_judge_pass.proofs.Shown.{add}
 use Rattle.lu_judge_recovery.proofs.failing.Failing.step.Goals as goal
 
 pub returns-in_ok-insert-in-Target : goal.returns-in_ok-insert-in-Target

@@ -1,7 +1,7 @@
 use Rattle.std.proofs.Common.{reverse}
 use Rattle.std.proofs.lemmas.Result.{on_ok_weaker}
-use Rattle.lu_laws.specs.Words.Clients.{clients}
-use Rattle.lu_judge_seen.proofs.FormedLines.{formed_at}
+use Rattle.lu_spec_laws.specs.Words.Clients.{clients}
+use Rattle.lu_judge_names.proofs.FormedLines.{formed_at}
 use Rattle.lu_judge_recovery.proofs.AtLines.{rises}
 use Rattle.lu_judge_recovery.proofs.judge.RecoveryJudge.step.Goals as goal
 
@@ -15,7 +15,8 @@ returns-clause-shows c =
       failing = shown.failing;
       formed = shown.formed;
       known = steps past placed.ordered placed.messages.order formed.0
-          (rises (clients (reverse c.args.self.now.lines.now)) c.args.self.now.known.osts past c.args.line.now later c.args.line.now.entry law) shown.known;
+          (rises (clients (reverse c.args.self.now.lines.now)) c.args.self.now.known.osts past c.args.line.now later c.args.line.now.entry
+          law) shown.known;
       marks = c.in_ok-step-4.ensures.shows past shown.marks;
       made = c.in_ok-step-5.ensures.shows past shown.made;
       noted = c.in_ok-step-6.ensures.shows past shown.noted;

@@ -7,7 +7,8 @@ pub returns-in_ok-insert-in-Tick : goal.returns-in_ok-insert-in-Tick
 returns-in_ok-insert-in-Tick c = record {
   marked = rw c.in-Tick.is
       (record {
-        ticked = λ s t. marked_here (c.args.turn.stamp == s && c.args.turn.target == t) _ (has_ticked c.args.self.now s t) (c.in_ok-insert-in-Tick.ensures.updates.0 (s, t));
+        ticked = λ s t. marked_here (c.args.turn.stamp == s && c.args.turn.target == t) _ (has_ticked c.args.self.now s t)
+            (c.in_ok-insert-in-Tick.ensures.updates.0 (s, t));
         committed = λ s t. unmarked (c.args.turn.stamp == s && c.args.turn.target == t) (has_committed c.args.self.now s t);
         taken = λ s t. unmarked (c.args.turn.stamp == s && c.args.turn.target == t) (has_taken c.args.self.now s t);
         back = λ s t who. unmarked (c.args.turn.stamp == s && c.args.turn.target == t) (has_back c.args.self.now s t who);
@@ -19,7 +20,8 @@ returns-in_ok-insert-in-Commit c = record {
   marked = rw c.in-Commit.is
       (record {
         ticked = λ s t. unmarked (c.args.turn.stamp == s && c.args.turn.target == t) (has_ticked c.args.self.now s t);
-        committed = λ s t. marked_here (c.args.turn.stamp == s && c.args.turn.target == t) _ (has_committed c.args.self.now s t) (c.in_ok-insert-in-Commit.ensures.updates.0 (s, t));
+        committed = λ s t. marked_here (c.args.turn.stamp == s && c.args.turn.target == t) _ (has_committed c.args.self.now s t)
+            (c.in_ok-insert-in-Commit.ensures.updates.0 (s, t));
         taken = λ s t. unmarked (c.args.turn.stamp == s && c.args.turn.target == t) (has_taken c.args.self.now s t);
         back = λ s t who. unmarked (c.args.turn.stamp == s && c.args.turn.target == t) (has_back c.args.self.now s t who);
       });
@@ -31,7 +33,8 @@ returns-in_ok-insert-in-Take c = record {
       (record {
         ticked = λ s t. unmarked (c.args.turn.stamp == s && c.args.turn.target == t) (has_ticked c.args.self.now s t);
         committed = λ s t. unmarked (c.args.turn.stamp == s && c.args.turn.target == t) (has_committed c.args.self.now s t);
-        taken = λ s t. marked_here (c.args.turn.stamp == s && c.args.turn.target == t) _ (has_taken c.args.self.now s t) (c.in_ok-insert-in-Take.ensures.updates.0 (s, t));
+        taken = λ s t. marked_here (c.args.turn.stamp == s && c.args.turn.target == t) _ (has_taken c.args.self.now s t)
+            (c.in_ok-insert-in-Take.ensures.updates.0 (s, t));
         back = λ s t who. unmarked (c.args.turn.stamp == s && c.args.turn.target == t) (has_back c.args.self.now s t who);
       });
 }

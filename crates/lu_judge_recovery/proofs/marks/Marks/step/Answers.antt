@@ -9,5 +9,6 @@ returns-in-Client c = record {
 
 pub returns-in-Target : goal.returns-in-Target
 returns-in-Target c = record {
-  shows = on_ok_weaker c.mark.result (λ marked past shown. target_marks c.args.self.now c.mark.new.self past c.args.line.now c.in-Target.target c.in-Target.is marked shown) c.mark.ensures.marked;
+  shows = on_ok_weaker c.mark.result (λ marked past shown. target_marks c.args.self.now c.mark.new.self past c.args.line.now
+      c.in-Target.target c.in-Target.is marked shown) c.mark.ensures.marked;
 }

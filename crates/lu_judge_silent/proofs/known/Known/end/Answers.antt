@@ -1,5 +1,5 @@
 use Rattle.std.proofs.Common.{refl}
-use Rattle.lu_judge.proofs.Shown.{taken}
+use Rattle.lu_judge_pass.proofs.Shown.{taken}
 use Rattle.lu_judge_silent.specs.Tables.{stood_of}
 use Rattle.lu_judge_silent.proofs.known.Known.end.Goals as goal
 

@@ -1,5 +1,5 @@
 use Rattle.std.proofs.Common.{sym}
-use Rattle.lu_laws.specs.Words.Repeats.{known}
+use Rattle.lu_spec_laws.specs.Words.Repeats.{known}
 use Rattle.lu_judge_silent.proofs.Questions.{other_known}
 use Rattle.lu_judge_silent.proofs.known.Known.has.Goals as goal
 

@@ -9,5 +9,6 @@ returns-in-Target c = record {
 pub returns-in_ok-follow-in-Client : goal.returns-in_ok-follow-in-Client
 returns-in_ok-follow-in-Client c = record {
   follows = λ past ledger shown.
-      c.in_ok-follow-in-Client.ensures.follows past (own_line c.args.ledger.now.lives past c.args.line.now.at.node c.in-Client.client c.who.result c.in-Client.is c.who.ensures.who ledger.lives) ledger shown;
+      c.in_ok-follow-in-Client.ensures.follows past (own_line c.args.ledger.now.lives past c.args.line.now.at.node c.in-Client.client
+      c.who.result c.in-Client.is c.who.ensures.who ledger.lives) ledger shown;
 }

@@ -7,6 +7,7 @@ returns c = record {
   shows = record {
     clock = refl;
     ups = c.new-5.ensures.shows;
-    lives = λ w. none_yet _ w (c.new.ensures.never w) (λ h. c.new-2.ensures.never (w, h)) (λ s. rw c.new-3.ensures.empty refl) (λ q. c.new-4.ensures.never (w, q));
+    lives = λ w. none_yet _ w (c.new.ensures.never w) (λ h. c.new-2.ensures.never (w, h)) (λ s. rw c.new-3.ensures.empty refl)
+        (λ q. c.new-4.ensures.never (w, q));
   };
 }

@@ -9,6 +9,7 @@ returns-clause-shows c =
       short = shown.short;
       ledger = steps past placed.ordered placed.messages.order shown.ledger;
       held = c.in_ok-step-2.ensures.shows past shown.ledger shown.held;
-      known = c.in_ok-step.ensures.shows past (shorter _ c.args.self.now.lines.now later c.args.line.now past placed.whole shown.short) shown.ledger shown.known;
+      known = c.in_ok-step.ensures.shows past (shorter _ c.args.self.now.lines.now later c.args.line.now past placed.whole shown.short)
+          shown.ledger shown.known;
     })
     c.step-3.ensures.shows

@@ -1,6 +1,6 @@
 use Rattle.std.proofs.Common.{◌≡◌, ℕ, List, false, take}
 use Rattle.std.specs.List.{list_any}
-use Rattle.lu_laws.specs.Words.Lost.{is_among}
+use Rattle.lu_spec_laws.specs.Words.Lost.{is_among}
 use Rattle.lu_judge_windows.specs.Fates.{IsFate}
 use Rattle.lu_judge_windows.proofs.fates.Fate.has_any.Given as goal
 

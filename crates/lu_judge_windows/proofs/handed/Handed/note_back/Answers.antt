@@ -1,6 +1,6 @@
 use Rattle.std.proofs.Common.{Bool, ap, sym, ◌∙◌}
 use Rattle.std.specs.Prelude.{◌&&◌, ◌||◌}
-use Rattle.lu_machine.specs.Tree.{same_life}
+use Rattle.lu_spec_machine.specs.Tree.{same_life}
 use Rattle.lu_judge_windows.specs.Handed.{is_back_in}
 use Rattle.lu_judge_windows.proofs.Tests.{put_test}
 use Rattle.lu_judge_windows.proofs.handed.Handed.note_back.Goals as goal

@@ -2,7 +2,7 @@ use Rattle.std.proofs.Common.{ℕ, ◌+◌, Bool, List, ◌∷◌, Bor, refl, ap
 use Rattle.std.specs.Prelude.{◌&&◌, ◌||◌, if◌then◌else◌, map, reverse}
 use Rattle.lu_msg.specs.declared.messages.Message.TheVariants.{Lock}
 use Rattle.lu_msg.specs.declared.messages.LockReplay.{LockReplay}
-use Rattle.lu_machine.specs.Tree.{same_life}
+use Rattle.lu_spec_machine.specs.Tree.{same_life}
 use Rattle.lu_judge_windows.specs.declared.counted.Counted.{Counted}
 use Rattle.lu_judge_windows.specs.Counted.{count_of, is_within}
 use Rattle.lu_judge_windows.specs.Handed.{is_back_in, ShowsHanded}
@@ -15,8 +15,10 @@ use Rattle.lu_judge_windows.proofs.handed.Handed.take_lock.Goals as goal
 pub returns-then-not-is_new : goal.returns-then-not-is_new
 returns-then-not-is_new c = record {
   shows = λ handed shown.
-      subst (λ (x : Counted). ShowsHanded (record c.args.self.now { cookies = x }) c.args.lock.now.boot (Lock c.args.lock.now ∷ handed)) (sym (c.in_ok-is_new.ensures.same c.if-not-is_new.true))
-      (silent_shown c.args.self.now c.args.lock.now.boot (Lock c.args.lock.now) handed shown (known_lock c.args.self.now c.args.lock.now handed shown (was_there _ _ c.in_ok-is_new.ensures.new c.if-not-is_new.true)));
+      subst (λ (x : Counted). ShowsHanded (record c.args.self.now { cookies = x }) c.args.lock.now.boot (Lock c.args.lock.now ∷ handed))
+      (sym (c.in_ok-is_new.ensures.same c.if-not-is_new.true))
+      (silent_shown c.args.self.now c.args.lock.now.boot (Lock c.args.lock.now) handed shown
+      (known_lock c.args.self.now c.args.lock.now handed shown (was_there _ _ c.in_ok-is_new.ensures.new c.if-not-is_new.true)));
 }
 
 pub returns : goal.returns
@@ -24,13 +26,17 @@ returns c = record {
   shows = λ handed shown.
       let t = c.args.self.now in
       let r = c.args.lock.now in
-      lock_shown t (record t { cookies = c.add.new.self; locks = c.push.new.self }) c.note_back.new.self r handed shown (was_absent _ _ c.in_ok-is_new.ensures.new c.if-not-is_new.false) c.add.new.self refl c.in_ok-note_back.ensures.others c.in_ok-is_new.ensures.members
+      lock_shown t (record t { cookies = c.add.new.self; locks = c.push.new.self }) c.note_back.new.self r handed shown
+      (was_absent _ _ c.in_ok-is_new.ensures.new c.if-not-is_new.false) c.add.new.self refl c.in_ok-note_back.ensures.others
+      c.in_ok-is_new.ensures.members
       (ap (λ (ls : List (Bor LockReplay)). reverse (map (λ (l : Bor LockReplay). l.now) ls)) c.in_ok-push.ensures.items
       ∙ ap reverse (map_push (λ (l : Bor LockReplay). l.now) t.locks.items c.args.lock)
       ∙ reverse_push (map (λ (l : Bor LockReplay). l.now) t.locks.items) r)
-      (λ w. c.in_ok-is_new.ensures.counts w ∙ ap (λ (b : Bool). if b && same_life r.who w then count_of t.cookies w + 1 else count_of t.cookies w) c.if-not-is_new.false)
+      (λ w. c.in_ok-is_new.ensures.counts w ∙ ap (λ (b : Bool). if b && same_life r.who w then count_of t.cookies w + 1
+      else count_of t.cookies w) c.if-not-is_new.false)
       (λ w.
       c.in_ok-note_back.ensures.back w
       ∙ ap (λ (b : Bool). (b && same_life r.who w) || is_back_in t w)
-      (c.is_within-is_back.ensures.within ∙ ap (λ (k : ℕ). is_within t.by_locks r.who k c.count-replays.result) c.count-locks.ensures.count ∙ ap (λ (k : ℕ). is_within t.by_locks r.who (count_of c.add.new.self r.who) k) c.count-replays.ensures.count));
+      (c.is_within-is_back.ensures.within ∙ ap (λ (k : ℕ). is_within t.by_locks r.who k c.count-replays.result) c.count-locks.ensures.count
+      ∙ ap (λ (k : ℕ). is_within t.by_locks r.who (count_of c.add.new.self r.who) k) c.count-replays.ensures.count));
 }

@@ -1,6 +1,6 @@
 use Rattle.std.proofs.Common.{◌∙◌}
 use Rattle.std.specs.Prelude.{◌==◌}
-use Rattle.lu_machine.specs.Tree.{same_life}
+use Rattle.lu_spec_machine.specs.Tree.{same_life}
 use Rattle.lu_judge_windows.specs.Learned.{has_number}
 use Rattle.lu_judge_windows.proofs.Tests.{put_known}
 use Rattle.lu_judge_windows.proofs.learned.Known.add.Goals as goal

@@ -5,4 +5,5 @@ use Rattle.lu_judge_windows.proofs.learned.Known.add_all.Goals as goal
 
 pub loop-number-preserved : goal.loop-number-preserved
 loop-number-preserved c = λ t w n.
-    known_more (is_of c.args.target c.args.who t w) n _ c.loop-number.number-index c.as_slice-number-items.result.now _ _ _ (omega arith) (c.in_ok-add.ensures.added t w n) (c.loop-number.invariant t w n) refl
+    known_more (is_of c.args.target c.args.who t w) n _ c.loop-number.number-index c.as_slice-number-items.result.now _ _ _ (omega arith)
+    (c.in_ok-add.ensures.added t w n) (c.loop-number.invariant t w n) refl

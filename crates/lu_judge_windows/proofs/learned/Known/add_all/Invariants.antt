@@ -7,4 +7,5 @@ use Rattle.lu_judge_windows.proofs.learned.Known.add_all.Given as goal
 
 abbrev pub invariant-loop-number : goal.invariant-loop-number
 invariant-loop-number l = (t : ℕ) (w : Who) (n : ℕ)
-    → has_number l.self t w n ≡ ((is_of l.target l.who t w && list_any (nat_eq n) (take l.number-index l.number-items)) || has_number l.initial.self t w n)
+    → has_number l.self t w n ≡ ((is_of l.target l.who t w && list_any (nat_eq n) (take l.number-index l.number-items))
+    || has_number l.initial.self t w n)

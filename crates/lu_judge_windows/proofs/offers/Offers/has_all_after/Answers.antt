@@ -1,6 +1,6 @@
 use Rattle.std.proofs.Common.{List, [], ◌∷◌, ap, sym, ◌∙◌}
 use Rattle.lu_msg.specs.declared.messages.Message.{Message}
-use Rattle.lu_laws.specs.Words.Handed.{has_all}
+use Rattle.lu_spec_laws.specs.Words.Handed.{has_all}
 use Rattle.lu_judge_windows.specs.Offers.{offer_in}
 use Rattle.lu_judge_windows.proofs.OfferLines.{offer_none}
 use Rattle.lu_judge_windows.proofs.offers.Offers.has_all_after.Goals as goal

@@ -11,6 +11,7 @@ returns-in_ok-insert-in-None c =
       taken = λ messages shown.
           let none : messages ≡ [] = subst (λ (o : Option Handed). ShowsOffer o c.args.boot messages) (sym c.in-None.ensures.value) shown in
           subst (λ (o : Option Handed). ShowsOffer o c.args.boot (c.args.message.now ∷ messages)) (sym updates.1)
-          (subst (λ (ms : List Message). ShowsOffer (Some c.take-in-None.new.self) c.args.boot (c.args.message.now ∷ ms)) (sym none) (c.in_ok-take-in-None.ensures.shows [] (c.new-here.ensures.shows c.args.boot)));
+          (subst (λ (ms : List Message). ShowsOffer (Some c.take-in-None.new.self) c.args.boot (c.args.message.now ∷ ms)) (sym none)
+          (c.in_ok-take-in-None.ensures.shows [] (c.new-here.ensures.shows c.args.boot)));
       others = λ t apart. rw (← c.get_mut.follows.holds-at-none) (updates.2 t apart);
     }

@@ -1,9 +1,9 @@
 use Rattle.std.proofs.Common.{take, map}
 use Rattle.std.specs.Prelude.{reverse}
-use Rattle.lu_laws.specs.Words.Pasts.{Past}
-use Rattle.lu_laws.specs.Words.Boots.{committed}
-use Rattle.lu_laws.specs.Words.Lost.{is_replayable, lost_of, undecided, lost_numbers}
-use Rattle.lu_judge.specs.Ledgers.{ShowsLedger}
+use Rattle.lu_spec_laws.specs.Words.Pasts.{Past}
+use Rattle.lu_spec_laws.specs.Words.Boots.{committed}
+use Rattle.lu_spec_laws.specs.Words.Lost.{is_replayable, lost_of, undecided, lost_numbers}
+use Rattle.lu_judge_pass.specs.Ledgers.{ShowsLedger}
 use Rattle.lu_judge_windows.specs.Fates.{IsFate}
 use Rattle.lu_judge_windows.specs.Transactions.{transaction_of}
 use Rattle.lu_judge_windows.specs.Windows.{ShowsWindows}
@@ -11,4 +11,5 @@ use Rattle.lu_judge_windows.proofs.windows.Windows.fate.Given as goal
 
 abbrev pub invariant-loop-done : goal.invariant-loop-done
 invariant-loop-done l = (past : Past) → ShowsLedger l.ledger past → ShowsWindows l.self past
-    → IsFate l.fate (lost_of (is_replayable l.target past) (undecided (committed l.target past) (lost_numbers l.target past) (reverse (map transaction_of (take l.done-index l.done-items)))))
+    → IsFate l.fate (lost_of (is_replayable l.target past) (undecided (committed l.target past) (lost_numbers l.target past)
+    (reverse (map transaction_of (take l.done-index l.done-items)))))

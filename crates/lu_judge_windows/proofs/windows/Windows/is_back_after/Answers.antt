@@ -1,7 +1,7 @@
 use Rattle.std.proofs.Common.{◌∷◌, Bool, ap, sym, ◌∙◌}
 use Rattle.std.specs.Prelude.{◌&&◌}
-use Rattle.lu_laws.specs.Words.Boots.{boot}
-use Rattle.lu_laws.specs.Words.Handed.{handed, has_all}
+use Rattle.lu_spec_laws.specs.Words.Boots.{boot}
+use Rattle.lu_spec_laws.specs.Words.Handed.{handed, has_all}
 use Rattle.lu_judge_windows.proofs.SlotLines.{elsewhere}
 use Rattle.lu_judge_windows.proofs.windows.Windows.is_back_after.Goals as goal
 
@@ -17,7 +17,8 @@ returns-then-not-has_slot_after c = record {
   back = λ past ledger shown.
       let now = c.args.line.now ∷ past in
       sym (ap (λ (b : Bool). b && has_all (boot c.args.target now) c.args.who (handed c.args.target now))
-      (sym (c.has_slot_after.ensures.slot past c.args.line.now.at (sym c.is_at.ensures ∙ c.if-not-is_at.false) ledger shown) ∙ c.if-not-has_slot_after.true));
+      (sym (c.has_slot_after.ensures.slot past c.args.line.now.at (sym c.is_at.ensures ∙ c.if-not-is_at.false) ledger shown)
+      ∙ c.if-not-has_slot_after.true));
 }
 
 pub returns : goal.returns

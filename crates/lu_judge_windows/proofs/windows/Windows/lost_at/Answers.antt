@@ -1,4 +1,4 @@
-use Rattle.lu_laws.specs.Words.Closes.{lost_at}
+use Rattle.lu_spec_laws.specs.Words.Closes.{lost_at}
 use Rattle.lu_judge_windows.proofs.windows.Windows.lost_at.Goals as goal
 
 pub returns : goal.returns

@@ -15,9 +15,12 @@ returns c = record {
       record {
         marks = c.in_ok-step-2.ensures.shows past marks;
         joins = c.in_ok-step-3.ensures.shows past (subst (λ (w : Windows). ShowsJoins w.joins past) kept shown.joins);
-        offers = c.in_ok-step.ensures.shows past marks ledger.sendings (subst (λ (w : Windows). ShowsOffers w.offers past) kept shown.offers);
-        learned = c.in_ok-step-4.ensures.shows past ordered follows ledger (subst (λ (w : Windows). ShowsLearned w.learned past) kept shown.learned);
-        transactions = c.in_ok-step-5.ensures.shows past (subst (λ (w : Windows). ShowsTransactions w.transactions past) kept shown.transactions);
+        offers = c.in_ok-step.ensures.shows past marks ledger.sendings
+            (subst (λ (w : Windows). ShowsOffers w.offers past) kept shown.offers);
+        learned = c.in_ok-step-4.ensures.shows past ordered follows ledger
+            (subst (λ (w : Windows). ShowsLearned w.learned past) kept shown.learned);
+        transactions = c.in_ok-step-5.ensures.shows past (subst (λ (w : Windows). ShowsTransactions w.transactions past) kept
+            shown.transactions);
         losses = c.in_ok-step_losses.ensures.losses past ledger shown;
       };
 }

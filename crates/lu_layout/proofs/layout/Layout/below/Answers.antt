@@ -13,7 +13,8 @@ overflow_sub-round c =
 pub returns-then-stripe-reached : goal.returns-then-stripe-reached
 returns-then-stripe-reached c =
     let good : IsLayout c.args.self.now = subst IsLayout c.self.view_is c.self.invariant.layout in
-    let count : IsCount c.args.self.now c.args.stripe c.args.n (c.place-reached.result.1 - c.args.n % c.self.inside.unit + c.self.inside.unit) =
+    let count : IsCount c.args.self.now c.args.stripe c.args.n (c.place-reached.result.1 - c.args.n % c.self.inside.unit +
+    c.self.inside.unit) =
     before_reached c.args.self.now c.args.stripe c.args.n c.place-reached.result.0 c.place-reached.result.1 c.self.inside.unit good
     (ap (λ (l : Raid0). l.size) c.self.view_is) c.place-reached.ensures.stripe c.place-reached.ensures.offset c.if-stripe-reached.true in
     record { value = IsCount-is _ _ _ _ good c.requires.stripe count; below = count.counts; within = IsCount-le _ _ _ _ good count }
@@ -31,5 +32,6 @@ returns-else-stripe-reached-2 c =
     let good : IsLayout c.args.self.now = subst IsLayout c.self.view_is c.self.invariant.layout in
     let count : IsCount c.args.self.now c.args.stripe c.args.n (c.place-reached.result.1 - c.args.n % c.self.inside.unit) =
     after_reached c.args.self.now c.args.stripe c.args.n c.place-reached.result.0 c.place-reached.result.1 c.self.inside.unit good
-    (ap (λ (l : Raid0). l.size) c.self.view_is) c.place-reached.ensures.stripe c.place-reached.ensures.offset (omega arith) c.requires.stripe in
+    (ap (λ (l : Raid0). l.size) c.self.view_is) c.place-reached.ensures.stripe c.place-reached.ensures.offset (omega arith)
+    c.requires.stripe in
     record { value = IsCount-is _ _ _ _ good c.requires.stripe count; below = count.counts; within = IsCount-le _ _ _ _ good count }

@@ -10,5 +10,9 @@ returns-clause-offset c = rw (← c.self.view_is) (offset_of-fields c.self.insid
 
 pub returns-clause-inverse : goal.returns-clause-inverse
 returns-clause-inverse c =
-    rw (← c.self.view_is, stripe_of-fields c.self.inside c.args.position c.self.invariant, offset_of-fields c.self.inside c.args.position c.self.invariant)
+    rw (
+      ← c.self.view_is,
+      stripe_of-fields c.self.inside c.args.position c.self.invariant,
+      offset_of-fields c.self.inside c.args.position c.self.invariant,
+    )
     (position_of-place _ c.args.position c.self.invariant.layout)

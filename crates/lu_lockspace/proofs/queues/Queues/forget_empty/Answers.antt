@@ -5,4 +5,5 @@ use Rattle.lu_lockspace.proofs.Resources.{is_at_same}
 use Rattle.lu_lockspace.proofs.queues.Queues.forget_empty.Goals as goal
 
 pub returns-clause-others : goal.returns-clause-others
-returns-clause-others c = λ other differ. c.remove.ensures.updates.2 other (is_at_same c.args.resource other ∙ differ) ∙ ap (entry_of other) c.self.view_is
+returns-clause-others c = λ other differ. c.remove.ensures.updates.2 other (is_at_same c.args.resource other ∙ differ)
+    ∙ ap (entry_of other) c.self.view_is

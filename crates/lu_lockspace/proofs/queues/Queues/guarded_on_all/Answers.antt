@@ -9,5 +9,7 @@ loop-resource-preserved c =
     let some = c.in_ok-guarded_on.field-0.items in
     let i = c.loop-resource.resource-index in
     let e : c.extend_from_slice.new.self.items ≡ c.loop-resource.cookies.items ++ some = search rules in
-    subst (λ cs. cs ++ guarded_on_all (drop (i + 1) c.args.resources.now) c.args.parts.now c.args.self.now ≡ guarded_on_all c.args.resources.now c.args.parts.now c.args.self.now) (sym e)
-    (on_more c.args.resources.now c.args.parts.now c.args.self.now i _ c.loop-resource.cookies.items some c.loop-resource-test.true c.in_ok-guarded_on.ensures c.loop-resource.invariant)
+    subst (λ cs. cs ++ guarded_on_all (drop (i + 1) c.args.resources.now) c.args.parts.now c.args.self.now
+    ≡ guarded_on_all c.args.resources.now c.args.parts.now c.args.self.now) (sym e)
+    (on_more c.args.resources.now c.args.parts.now c.args.self.now i _ c.loop-resource.cookies.items some c.loop-resource-test.true
+    c.in_ok-guarded_on.ensures c.loop-resource.invariant)

@@ -10,4 +10,5 @@ loop-queue-preserved c =
     let first : c.loop-queue.queue-iterator ≡ (c.in-Some.field-0-0.now, c.in-Some.queue.now) ∷ c.next.new.self = search rules in
     let here : some ≡ of_life_on c.args.who c.in-Some.queue.now.granted = search rules in
     subst (λ cs. cs ++ of_life c.args.who c.next.new.self ≡ of_life c.args.who c.args.self.now) (sym e)
-    (life_more c.args.who c.loop-queue.queue-iterator c.next.new.self c.in-Some.field-0-0.now c.in-Some.queue.now c.loop-queue.cookies.items some (of_life c.args.who c.args.self.now) first here c.loop-queue.invariant)
+    (life_more c.args.who c.loop-queue.queue-iterator c.next.new.self c.in-Some.field-0-0.now c.in-Some.queue.now c.loop-queue.cookies.items
+    some (of_life c.args.who c.args.self.now) first here c.loop-queue.invariant)

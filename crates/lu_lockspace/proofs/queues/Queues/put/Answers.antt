@@ -8,4 +8,5 @@ use Rattle.lu_lockspace.proofs.queues.Queues.put.Goals as goal
 pub returns-clause-others : goal.returns-clause-others
 returns-clause-others c =
     let found : IsSome (entry_of c.args.resource c.self.inside.entries.entries) = search rules in
-    λ other differ. ((c.get_mut.follows.holds _).3 found).2 other (is_at_same c.args.resource other ∙ differ) ∙ ap (entry_of other) c.self.view_is
+    λ other differ. ((c.get_mut.follows.holds _).3 found).2 other (is_at_same c.args.resource other ∙ differ)
+    ∙ ap (entry_of other) c.self.view_is

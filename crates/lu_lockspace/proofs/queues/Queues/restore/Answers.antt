@@ -17,11 +17,13 @@ pub returns-in-Some-clause-others : goal.returns-in-Some-clause-others
 returns-in-Some-clause-others c =
     let found : entry_of c.args.resource c.self.inside.entries.entries ≡ Some c.in-Some.queue.now = search rules in
     let some : IsSome (entry_of c.args.resource c.self.inside.entries.entries) = ap is_some found in
-    λ other differ. ((c.get_mut.follows.holds c.restore.new.self).3 some).2 other (is_at_same c.args.resource other ∙ differ) ∙ ap (entry_of other) c.self.view_is
+    λ other differ. ((c.get_mut.follows.holds c.restore.new.self).3 some).2 other (is_at_same c.args.resource other ∙ differ)
+    ∙ ap (entry_of other) c.self.view_is
 
 pub returns-in-Some-clause-kept : goal.returns-in-Some-clause-kept
 returns-in-Some-clause-kept c =
     let found : entry_of c.args.resource c.self.inside.entries.entries ≡ Some c.in-Some.queue.now = search rules in
     on_err_weaker c.restore.result
-    (λ same. (c.get_mut.follows.holds c.restore.new.self).0 ∙ set_same _ c.self.inside.entries.entries c.restore.new.self (found ∙ ap Some (sym same)) ∙ c.self.view_is)
+    (λ same. (c.get_mut.follows.holds c.restore.new.self).0 ∙ set_same _ c.self.inside.entries.entries c.restore.new.self
+    (found ∙ ap Some (sym same)) ∙ c.self.view_is)
     c.restore.ensures.kept

@@ -15,8 +15,10 @@ pub invariant_of-self-in-Ok : goal.invariant_of-self-in-Ok
 invariant_of-self-in-Ok c =
     let lock = c.args.lock in
     let none : place_of lock.cookie.0 c.self.inside.places.entries ≡ None =
-    no_place c.self.inside.queues c.self.inside.places.entries c.self.invariant lock.cookie.0 (subst (λ s. is_in lock.cookie.0 s ≡ false) (sym c.self.view_is) c.requires.new) in
-    indexed_with lock.cookie.0 lock.resource c.self.inside.queues c.enqueue.new.self c.self.inside.places.entries c.insert.new.self.entries c.self.invariant
+    no_place c.self.inside.queues c.self.inside.places.entries c.self.invariant lock.cookie.0
+    (subst (λ s. is_in lock.cookie.0 s ≡ false) (sym c.self.view_is) c.requires.new) in
+    indexed_with lock.cookie.0 lock.resource c.self.inside.queues c.enqueue.new.self c.self.inside.places.entries c.insert.new.self.entries
+    c.self.invariant
     c.enqueue.ensures.rising c.enqueue.ensures.others c.in-Ok.ensures.lawful c.insert.ensures.ordered none
     (λ n. ap (queue.is_in n) c.in-Ok.ensures.added ∙ in_with n (grant_of lock) (at lock.resource c.self.inside.queues))
     (λ q. c.in_ok-insert.ensures.updates.0 q)
@@ -25,29 +27,34 @@ pub invariant_of-self-in-Err : goal.invariant_of-self-in-Err
 invariant_of-self-in-Err c =
     let lock = c.args.lock in
     let none : place_of lock.cookie.0 c.self.inside.places.entries ≡ None =
-    no_place c.self.inside.queues c.self.inside.places.entries c.self.invariant lock.cookie.0 (subst (λ s. is_in lock.cookie.0 s ≡ false) (sym c.self.view_is) c.requires.new) in
+    no_place c.self.inside.queues c.self.inside.places.entries c.self.invariant lock.cookie.0
+    (subst (λ s. is_in lock.cookie.0 s ≡ false) (sym c.self.view_is) c.requires.new) in
     subst (λ es. IsIndexed es c.remove.new.self.entries) (sym c.in-Err.ensures.kept)
     (indexed_same c.self.inside.queues c.self.inside.places.entries c.remove.new.self.entries c.self.invariant c.remove.ensures.ordered
-    (put_back lock.cookie.0 lock.resource c.self.inside.places.entries c.insert.new.self.entries c.remove.new.self.entries none (λ q. c.in_ok-insert.ensures.updates.0 q) (λ q. c.remove.ensures.updates.0 q)))
+    (put_back lock.cookie.0 lock.resource c.self.inside.places.entries c.insert.new.self.entries c.remove.new.self.entries none
+    (λ q. c.in_ok-insert.ensures.updates.0 q) (λ q. c.remove.ensures.updates.0 q)))
 
 pub returns-in-Ok-clause-placed : goal.returns-in-Ok-clause-placed
 returns-in-Ok-clause-placed c =
     let lock = c.args.lock in
     let here : queue_of lock.resource c.args.self.now ≡ at lock.resource c.self.inside.queues =
-    subst (λ s. queue_of lock.resource s ≡ at lock.resource c.self.inside.queues) c.self.view_is (queue_at lock.resource c.self.inside.queues c.self.invariant.rising) in
+    subst (λ s. queue_of lock.resource s ≡ at lock.resource c.self.inside.queues) c.self.view_is
+    (queue_at lock.resource c.self.inside.queues c.self.invariant.rising) in
     c.in-Ok.ensures.placed ∙ ap (placed (grant_of lock)) (sym here)
 
 pub returns-in-Ok-clause-added : goal.returns-in-Ok-clause-added
 returns-in-Ok-clause-added c =
     let lock = c.args.lock in
     let here : queue_of lock.resource c.args.self.now ≡ at lock.resource c.self.inside.queues =
-    subst (λ s. queue_of lock.resource s ≡ at lock.resource c.self.inside.queues) c.self.view_is (queue_at lock.resource c.self.inside.queues c.self.invariant.rising) in
+    subst (λ s. queue_of lock.resource s ≡ at lock.resource c.self.inside.queues) c.self.view_is
+    (queue_at lock.resource c.self.inside.queues c.self.invariant.rising) in
     queue_at lock.resource c.enqueue.new.self c.enqueue.ensures.rising ∙ c.in-Ok.ensures.added ∙ ap (with_lock (grant_of lock)) (sym here)
 
 pub returns-in-Ok-clause-others : goal.returns-in-Ok-clause-others
 returns-in-Ok-clause-others c =
     subst (λ s. KeepsOthers c.args.lock.resource s (all_of c.enqueue.new.self)) c.self.view_is
-    (keeps_others c.args.lock.resource c.self.inside.queues c.enqueue.new.self c.self.invariant.rising c.enqueue.ensures.rising c.enqueue.ensures.others)
+    (keeps_others c.args.lock.resource c.self.inside.queues c.enqueue.new.self c.self.invariant.rising c.enqueue.ensures.rising
+    c.enqueue.ensures.others)
 
 pub returns-in-Ok-clause-lawful : goal.returns-in-Ok-clause-lawful
 returns-in-Ok-clause-lawful c = lawful c.enqueue.new.self c.insert.new.self.entries (invariant_of-self-in-Ok c)

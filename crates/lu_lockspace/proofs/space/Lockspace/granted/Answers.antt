@@ -10,14 +10,17 @@ pub returns-in_default-clause-lock : goal.returns-in_default-clause-lock
 returns-in_default-clause-lock c =
     let none : entry_of c.args.resource c.self.inside.queues ≡ None = search rules in
     subst (λ s. IsAt c.args.resource c.args.at s.granted None) c.self.view_is
-    (granted_on c.args.resource c.self.inside.queues c.args.at None c.self.invariant.rising (subst (λ q. queue.IsAt c.args.at q.granted None) (sym (at_none c.args.resource c.self.inside.queues none)) (none_at c.args.at)))
+    (granted_on c.args.resource c.self.inside.queues c.args.at None c.self.invariant.rising
+    (subst (λ q. queue.IsAt c.args.at q.granted None) (sym (at_none c.args.resource c.self.inside.queues none)) (none_at c.args.at)))
 
 pub returns-in_default-rising-clause-lock : goal.returns-in_default-rising-clause-lock
 returns-in_default-rising-clause-lock c =
     let there : entry_of c.args.resource c.self.inside.queues ≡ Some c.in-Some.queue.now = search rules in
     let last : queue.IsAt c.args.at c.in-Some.queue.now.granted None = search rules in
     subst (λ s. IsAt c.args.resource c.args.at s.granted None) c.self.view_is
-    (granted_on c.args.resource c.self.inside.queues c.args.at None c.self.invariant.rising (subst (λ q. queue.IsAt c.args.at q.granted None) (sym (at_some c.args.resource c.self.inside.queues c.in-Some.queue.now there)) last))
+    (granted_on c.args.resource c.self.inside.queues c.args.at None c.self.invariant.rising
+    (subst (λ q. queue.IsAt c.args.at q.granted None) (sym (at_some c.args.resource c.self.inside.queues c.in-Some.queue.now there))
+    last))
 
 pub returns-clause-lock : goal.returns-clause-lock
 returns-clause-lock c =
@@ -25,13 +28,17 @@ returns-clause-lock c =
     let found : queue.IsAt c.args.at c.in-Some.queue.now.granted (Some c.in-Some-rising.grant.now) = search rules in
     subst (λ l. IsAt c.args.resource c.args.at c.args.self.now.granted (Some l)) (sym c.lock_on.ensures)
     (subst (λ s. IsAt c.args.resource c.args.at s.granted (Some (lock_on c.args.resource c.in-Some-rising.grant.now))) c.self.view_is
-    (granted_on c.args.resource c.self.inside.queues c.args.at (Some c.in-Some-rising.grant.now) c.self.invariant.rising (subst (λ q. queue.IsAt c.args.at q.granted (Some c.in-Some-rising.grant.now)) (sym (at_some c.args.resource c.self.inside.queues c.in-Some.queue.now there)) found)))
+    (granted_on c.args.resource c.self.inside.queues c.args.at (Some c.in-Some-rising.grant.now) c.self.invariant.rising
+    (subst (λ q. queue.IsAt c.args.at q.granted (Some c.in-Some-rising.grant.now))
+    (sym (at_some c.args.resource c.self.inside.queues c.in-Some.queue.now there)) found)))
 
 pub returns-in_default-clause-lawful : goal.returns-in_default-clause-lawful
-returns-in_default-clause-lawful c = subst IsSpace c.self.view_is (lawful c.self.inside.queues c.self.inside.places.entries c.self.invariant)
+returns-in_default-clause-lawful c = subst IsSpace c.self.view_is
+    (lawful c.self.inside.queues c.self.inside.places.entries c.self.invariant)
 
 pub returns-in_default-rising-clause-lawful : goal.returns-in_default-rising-clause-lawful
-returns-in_default-rising-clause-lawful c = subst IsSpace c.self.view_is (lawful c.self.inside.queues c.self.inside.places.entries c.self.invariant)
+returns-in_default-rising-clause-lawful c = subst IsSpace c.self.view_is
+    (lawful c.self.inside.queues c.self.inside.places.entries c.self.invariant)
 
 pub returns-clause-lawful : goal.returns-clause-lawful
 returns-clause-lawful c = subst IsSpace c.self.view_is (lawful c.self.inside.queues c.self.inside.places.entries c.self.invariant)

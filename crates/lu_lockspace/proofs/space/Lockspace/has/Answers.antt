@@ -11,7 +11,8 @@ returns-clause-found c =
     let cookie = c.args.cookie.0 in
     let entries = c.self.inside.queues in
     let places = c.self.inside.places.entries in
-    let found : is_in cookie (all_of entries) ≡ is_some (place_of cookie places) = in_at cookie (all_of entries) (place_of cookie places) (placed_at entries places c.self.invariant cookie) in
+    let found : is_in cookie (all_of entries) ≡ is_some (place_of cookie places) =
+    in_at cookie (all_of entries) (place_of cookie places) (placed_at entries places c.self.invariant cookie) in
     c.contains_key.ensures ∙ sym (subst (λ s. is_in cookie s ≡ is_some (place_of cookie places)) c.self.view_is found)
 
 pub returns-clause-lawful : goal.returns-clause-lawful

@@ -9,7 +9,9 @@ use Rattle.lu_lockspace.proofs.space.Lockspace.queue_with.Goals as goal
 pub returns-in_default-clause-placed : goal.returns-in_default-clause-placed
 returns-in_default-clause-placed c =
     let none : place_of c.args.cookie.0 c.self.inside.places.entries ≡ None = search rules in
-    subst (λ s. IsPlaced c.args.cookie.0 s None) c.self.view_is (subst (IsPlaced c.args.cookie.0 (all_of c.self.inside.queues)) none (placed_at c.self.inside.queues c.self.inside.places.entries c.self.invariant c.args.cookie.0))
+    subst (λ s. IsPlaced c.args.cookie.0 s None) c.self.view_is
+    (subst (IsPlaced c.args.cookie.0 (all_of c.self.inside.queues)) none
+    (placed_at c.self.inside.queues c.self.inside.places.entries c.self.invariant c.args.cookie.0))
 
 pub returns-in_default-of-clause-placed : goal.returns-in_default-of-clause-placed
 returns-in_default-of-clause-placed c =
@@ -21,19 +23,23 @@ pub returns-clause-placed : goal.returns-clause-placed
 returns-clause-placed c =
     let found : place_of c.args.cookie.0 c.self.inside.places.entries ≡ Some c.in-Some.resource.now = search rules in
     subst (λ s. IsPlaced c.args.cookie.0 s (Some c.in-Some.resource.now)) c.self.view_is
-    (subst (IsPlaced c.args.cookie.0 (all_of c.self.inside.queues)) found (placed_at c.self.inside.queues c.self.inside.places.entries c.self.invariant c.args.cookie.0))
+    (subst (IsPlaced c.args.cookie.0 (all_of c.self.inside.queues)) found
+    (placed_at c.self.inside.queues c.self.inside.places.entries c.self.invariant c.args.cookie.0))
 
 pub returns-clause-queue : goal.returns-clause-queue
 returns-clause-queue c =
     let there : entry_of c.in-Some.resource.now c.self.inside.queues ≡ Some c.in-Some-of.queue.now = search rules in
     subst (λ s. c.in-Some-of.queue.now ≡ queue_of c.in-Some.resource.now s) c.self.view_is
-    (sym (queue_at c.in-Some.resource.now c.self.inside.queues c.self.invariant.rising ∙ at_some c.in-Some.resource.now c.self.inside.queues c.in-Some-of.queue.now there))
+    (sym (queue_at c.in-Some.resource.now c.self.inside.queues c.self.invariant.rising
+    ∙ at_some c.in-Some.resource.now c.self.inside.queues c.in-Some-of.queue.now there))
 
 pub returns-in_default-clause-lawful : goal.returns-in_default-clause-lawful
-returns-in_default-clause-lawful c = subst IsSpace c.self.view_is (lawful c.self.inside.queues c.self.inside.places.entries c.self.invariant)
+returns-in_default-clause-lawful c = subst IsSpace c.self.view_is
+    (lawful c.self.inside.queues c.self.inside.places.entries c.self.invariant)
 
 pub returns-in_default-of-clause-lawful : goal.returns-in_default-of-clause-lawful
-returns-in_default-of-clause-lawful c = subst IsSpace c.self.view_is (lawful c.self.inside.queues c.self.inside.places.entries c.self.invariant)
+returns-in_default-of-clause-lawful c = subst IsSpace c.self.view_is
+    (lawful c.self.inside.queues c.self.inside.places.entries c.self.invariant)
 
 pub returns-clause-lawful : goal.returns-clause-lawful
 returns-clause-lawful c = subst IsSpace c.self.view_is (lawful c.self.inside.queues c.self.inside.places.entries c.self.invariant)

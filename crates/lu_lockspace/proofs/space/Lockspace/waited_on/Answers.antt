@@ -13,7 +13,8 @@ returns-clause-resources c =
     (subst (AreWaitedOn (all_of c.self.inside.queues)) (sym told) (are_waited_on c.self.inside.queues c.self.invariant.rising))
 
 pub returns-in_err-resources-clause-lawful : goal.returns-in_err-resources-clause-lawful
-returns-in_err-resources-clause-lawful c = subst IsSpace c.self.view_is (lawful c.self.inside.queues c.self.inside.places.entries c.self.invariant)
+returns-in_err-resources-clause-lawful c = subst IsSpace c.self.view_is
+    (lawful c.self.inside.queues c.self.inside.places.entries c.self.invariant)
 
 pub returns-clause-lawful : goal.returns-clause-lawful
 returns-clause-lawful c = subst IsSpace c.self.view_is (lawful c.self.inside.queues c.self.inside.places.entries c.self.invariant)

@@ -1,12 +1,13 @@
 -- The contents are what the tree shows.
 use Rattle.std.proofs.Common.{◌≡◌, subst}
 use Rattle.lu_base.specs.declared.ids.Txn.{Txn}
-use Rattle.lu_machine.specs.Footprint as footprint
+use Rattle.lu_spec_machine.specs.Footprint as footprint
 use Rattle.lu_service.specs.Contents.{Contents, asked}
 use Rattle.lu_mdt.proofs.mdts.MdtService.changes.Goals as goal
 
 pub returns : goal.returns
 returns c =
     record {
-      changes = subst (λ (s : Contents). (number : Txn) → c.changes.result ≡ footprint.changes s.osts s.tree (asked number c.args.who c.args.op.now)) c.self.view_is c.changes.ensures.changes;
+      changes = subst (λ (s : Contents). (number : Txn) → c.changes.result
+          ≡ footprint.changes s.osts s.tree (asked number c.args.who c.args.op.now)) c.self.view_is c.changes.ensures.changes;
     }

@@ -1,11 +1,12 @@
 use Rattle.std.proofs.Common.{◌≡◌, ℕ, ◌<◌, ◌-◌, ◌∙◌, sym, ap, refl, subst, not, true, false, arith, rules}
 use Rattle.std.specs.Prelude.{is_some}
-use Rattle.lu_machine.specs.Places.{below, found_at, RisingFrom}
-use Rattle.lu_machine.specs.Objects.{cut_bytes}
-use Rattle.lu_machine.proofs.Objects.{object_cuts}
+use Rattle.lu_spec_machine.specs.Places.{below, found_at, RisingFrom}
+use Rattle.lu_spec_machine.specs.Objects.{cut_bytes}
+use Rattle.lu_spec_machine.proofs.Objects.{object_cuts}
 use Rattle.lu_object.proofs.Cuts.{cut_where_some, cut_where_none, below_zero}
 use Rattle.lu_object.proofs.objects.Object.cut.Goals as goal
-use Rattle.lu_object.proofs.objects.Object.cut.Goals.{then-n-gt0+then-is_none+in_ok-lay, else-n-gt0, else-n-gt0-via-then-n-gt0+else-is_none, else-n-gt0-via-else-n-gt0}
+use Rattle.lu_object.proofs.objects.Object.cut.Goals.{then-n-gt0+then-is_none+in_ok-lay, else-n-gt0, else-n-gt0-via-then-n-gt0+else-is_none}
+use Rattle.lu_object.proofs.objects.Object.cut.Goals.{else-n-gt0-via-else-n-gt0}
 
 cut_inside : (c : goal.After-keep_below) → below c.args.n c.if-n-gt0.self-inside.bytes ≡ cut_bytes c.args.n c.self.inside.bytes
 cut_inside c =
@@ -28,7 +29,8 @@ cut_inside c =
     ]
 
 pub invariant_of-self-2 : goal.invariant_of-self-2
-invariant_of-self-2 c = subst (λ m. RisingFrom 0 m) (sym (c.keep_below.ensures.below ∙ cut_inside c)) ((object_cuts c.args.n c.self.inside.bytes).rises c.self.invariant)
+invariant_of-self-2 c = subst (λ m. RisingFrom 0 m) (sym (c.keep_below.ensures.below ∙ cut_inside c))
+    ((object_cuts c.args.n c.self.inside.bytes).rises c.self.invariant)
 
 pub returns-clause-cut : goal.returns-clause-cut
 returns-clause-cut c = c.keep_below.ensures.below ∙ cut_inside c ∙ ap (cut_bytes c.args.n) c.self.view_is

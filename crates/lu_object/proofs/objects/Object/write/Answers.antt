@@ -1,6 +1,6 @@
 use Rattle.std.proofs.Common.{◌≡◌, ◌<◌, ◌∙◌, sym, ap, subst, length, arith, rules, OnOk}
-use Rattle.lu_machine.specs.Places.{RisingFrom}
-use Rattle.lu_machine.proofs.Places.{rising_laid}
+use Rattle.lu_spec_machine.specs.Places.{RisingFrom}
+use Rattle.lu_spec_machine.proofs.Places.{rising_laid}
 use Rattle.lu_object.proofs.Cuts.{put_is_laid}
 use Rattle.lu_object.proofs.Either.{either}
 use Rattle.lu_object.proofs.objects.Object.write.Goals as goal

@@ -1,7 +1,7 @@
 use Rattle.std.proofs.Common.{◌≡◌, ◌∙◌, sym, refl, ap, true, false}
 use Rattle.std.specs.Prelude.{if◌then◌else◌, Option, None}
-use Rattle.lu_machine.specs.Places.{is_in, found_at}
-use Rattle.lu_bytes.proofs.Rising.{found_filter}
+use Rattle.lu_spec_machine.specs.Places.{is_in, found_at}
+use Rattle.lu_spec_bytes.proofs.Rising.{found_filter}
 use Rattle.lu_page.proofs.page.Page.at_inside.Goals as goal
 
 pub returns-then-is_in : goal.returns-then-is_in

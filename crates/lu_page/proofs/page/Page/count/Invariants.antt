@@ -1,5 +1,5 @@
 use Rattle.std.proofs.Common.{◌≡◌, ◌+◌, ◌≤◌, length}
-use Rattle.lu_machine.specs.Places.{inside, below}
+use Rattle.lu_spec_machine.specs.Places.{inside, below}
 use Rattle.lu_page.proofs.page.Page.count.Given as goal
 
 abbrev pub invariant-loop-slot : goal.invariant-loop-slot

@@ -7,5 +7,6 @@ invariant-loop-slot g l =
     record {
       position : l.position ≡ l.initial.self-inside.first + l.slot;
       first : l.self-inside.first ≡ l.initial.self-inside.first;
-      edited : l.self-inside.slots.items ≡ edit_slots (g.E.Edit.edits l.edit) l.initial.self-inside.first l.slot l.initial.self-inside.slots.items;
+      edited : l.self-inside.slots.items ≡ edit_slots (g.E.Edit.edits l.edit) l.initial.self-inside.first l.slot
+          l.initial.self-inside.slots.items;
     }

@@ -1,6 +1,6 @@
 use Rattle.std.proofs.Common.{◌≤◌, ◌+◌}
-use Rattle.lu_machine.specs.Places.{inside}
-use Rattle.lu_bytes.specs.Maps.{AllBelow}
+use Rattle.lu_spec_machine.specs.Places.{inside}
+use Rattle.lu_spec_bytes.specs.Maps.{AllBelow}
 use Rattle.lu_page.proofs.page.Page.end_in.Given as goal
 
 abbrev pub invariant-loop-slot : goal.invariant-loop-slot

@@ -1,6 +1,6 @@
 use Rattle.std.proofs.Common.{◌≡◌, ℕ, ◌+◌, ◌<◌}
 use Rattle.std.specs.Prelude.{None}
-use Rattle.lu_machine.specs.Places.{inside, found_at}
+use Rattle.lu_spec_machine.specs.Places.{inside, found_at}
 use Rattle.lu_page.proofs.page.Page.first_in.Given as goal
 
 abbrev pub invariant-loop-slot : goal.invariant-loop-slot

@@ -1,6 +1,6 @@
 use Rattle.std.proofs.Common.{◌≡◌, ℕ, ◌+◌, ◌<◌, ◌≤◌, length, Some}
 use Rattle.std.specs.Prelude.{slice_index}
-use Rattle.lu_client_rows.specs.Patches.{reads_at}
+use Rattle.lu_spec_client.specs.Patches.{reads_at}
 use Rattle.lu_patch.proofs.patch.Patch.over.Given as goal
 
 abbrev pub invariant-loop-k : goal.invariant-loop-k

@@ -4,7 +4,7 @@ use Rattle.std.specs.Prelude.{if◌then◌else◌, Some, List}
 use Rattle.std.specs.Map.{lookup}
 use Rattle.lu_base.specs.declared.ids.Fid.{Fid}
 use Rattle.lu_layout.specs.Raid0.{Raid0}
-use Rattle.lu_machine.specs.Tree.{same_fid}
+use Rattle.lu_spec_machine.specs.Tree.{same_fid}
 use Rattle.lu_posix.proofs.Added.{added}
 use Rattle.lu_posix.proofs.layouts.Layouts.add.Goals as goal
 

@@ -4,9 +4,9 @@ use Rattle.std.specs.Map.{lookup}
 use Rattle.lu_base.specs.declared.ids.Fid.{Fid}
 use Rattle.lu_base.specs.declared.locks.Resource.{Resource}
 use Rattle.lu_layout.specs.Raid0.{Raid0}
-use Rattle.lu_machine.specs.Machine.{as_told}
-use Rattle.lu_machine.specs.Objects.{Object}
-use Rattle.lu_machine.specs.Tree.{same_fid}
+use Rattle.lu_spec_machine.specs.Machine.{as_told}
+use Rattle.lu_spec_machine.specs.Objects.{Object}
+use Rattle.lu_spec_machine.specs.Tree.{same_fid}
 use Rattle.lu_posix.specs.Names.{NamesState, asked, made_layout}
 use Rattle.lu_posix.specs.Shown.{MachineState, Shows, ShowsObjects}
 use Rattle.lu_posix.proofs.FileLayouts.{noted}
@@ -27,7 +27,8 @@ same_names c = elim c.match-made.branch [
   | in_default w ↦ ap (λ (s : MachineState). s.names) w.self-is
 ]
 
-noted_layouts : (c : goal.After-told) (f : Fid) → lookup (same_fid f) c.match-made.self.layouts ≡ noted c.made.result c.args.number f (lookup (same_fid f) c.self.inside.layouts)
+noted_layouts : (c : goal.After-told) (f : Fid) → lookup (same_fid f) c.match-made.self.layouts
+    ≡ noted c.made.result c.args.number f (lookup (same_fid f) c.self.inside.layouts)
 noted_layouts c f = elim c.match-made.branch [
   | in-Some+in_ok-add w ↦
       ap (λ (s : MachineState). lookup (same_fid f) s.layouts) w.self-is ∙ w.in_ok-add.ensures.added f
@@ -41,14 +42,16 @@ pub returns-clause-answer : goal.returns-clause-answer
 returns-clause-answer c = λ osts m shown.
     let before = subst (λ (s : MachineState). Shows osts s m) (sym c.self.view_is) shown in
     let objects = subst (λ (os : List (Resource × Object)). ShowsObjects os m) (sym (same_objects c)) before.objects in
-    c.told.ensures.told m objects ∙ ap (as_told m) c.in_ok-answer.ensures.answer ∙ told_same osts c.self.inside.names m before.names (asked c.args.number c.args.who c.args.op.now)
+    c.told.ensures.told m objects ∙ ap (as_told m) c.in_ok-answer.ensures.answer
+    ∙ told_same osts c.self.inside.names m before.names (asked c.args.number c.args.who c.args.op.now)
 
 pub returns-clause-next : goal.returns-clause-next
 returns-clause-next c = λ osts m shown.
     let before = subst (λ (s : MachineState). Shows osts s m) (sym c.self.view_is) shown in
     let a = asked c.args.number c.args.who c.args.op.now in
     names_step osts _ m before c.match-made.self a c.in_ok-answer.answer c.made.result c.in_ok-answer.ensures.answer
-    (c.made.ensures.made ∙ ap (λ (n : NamesState). made_layout n.osts c.args.number c.args.op.now c.in_ok-answer.answer) (sym (same_names c)))
+    (c.made.ensures.made ∙ ap (λ (n : NamesState). made_layout n.osts c.args.number c.args.op.now c.in_ok-answer.answer)
+    (sym (same_names c)))
     (same_names c ∙ c.in_ok-answer.ensures.after)
     (noted_layouts c)
     (same_objects c)

@@ -1,9 +1,9 @@
 -- The bytes of what is or was a file change through its layout.
 use Rattle.std.proofs.Common.{refl, sym, subst, ◌∙◌}
 use Rattle.lu_layout.specs.Raid0.{Raid0}
-use Rattle.lu_machine.specs.Bytes.{write}
-use Rattle.lu_machine.specs.Machine.{bytes_of}
-use Rattle.lu_machine.specs.Tree.{layout}
+use Rattle.lu_spec_machine.specs.Bytes.{write}
+use Rattle.lu_spec_machine.specs.Machine.{bytes_of}
+use Rattle.lu_spec_machine.specs.Tree.{layout}
 use Rattle.lu_posix.specs.Files.{ShowsFile}
 use Rattle.lu_posix.specs.Shown.{MachineState, Shows}
 use Rattle.lu_posix.proofs.Both.{both_ok}
@@ -14,11 +14,14 @@ pub returns : goal.returns
 returns c =
     record {
       next =
-          both_ok c.write.result c.write.ensures.written c.write.ensures.others
+          both_ok c.write_file.result c.write_file.ensures.written c.write_file.ensures.others
           (λ own others osts m shown.
           let here = subst (λ (s : MachineState). Shows osts s m) (sym c.self.view_is) shown in
           let was = was_shown osts _ m here c.args.fid c.in-Some.layout (sym c.in-Some.is ∙ c.of.ensures.found) in
-          changed_shown osts _ m here _ c.args.fid ((λ (l : Raid0). write l c.args.offset c.args.bytes.now) (layout m.tree c.args.fid)) was.0 refl refl
-          (subst (λ (l : Raid0). ShowsFile c.write.new.self c.args.fid (write l c.args.offset c.args.bytes.now (bytes_of m c.args.fid))) (sym was.1) (own (bytes_of m c.args.fid) (file_shown osts _ m here c.args.fid)))
+          changed_shown osts _ m here _ c.args.fid ((λ (l : Raid0). write l c.args.offset c.args.bytes.now) (layout m.tree c.args.fid))
+          was.0 refl refl
+          (subst (λ (l : Raid0). ShowsFile c.write_file.new.objects c.args.fid
+          (write l c.args.offset c.args.bytes.now (bytes_of m c.args.fid))) (sym was.1)
+          (own (bytes_of m c.args.fid) (file_shown osts _ m here c.args.fid)))
           others);
     }

@@ -16,4 +16,5 @@ returns-in-None-clause-lock c =
     let queue : QueueState = record { granted = c.self.inside.granted; waiting = c.self.inside.waiting } in
     let none : None ≡ find (λ l. l.cookie.0 == c.args.cookie.0) queue.granted = search rules in
     let h : option_copied c.find-in-None.result ≡ find (λ l. l.cookie.0 == c.args.cookie.0) queue.waiting = search rules in
-    subst (λ q. option_copied c.find-in-None.result ≡ lock_of c.args.cookie.0 q) c.self.view_is (found_next c.args.cookie.0 queue (option_copied c.find-in-None.result) none h)
+    subst (λ q. option_copied c.find-in-None.result ≡ lock_of c.args.cookie.0 q) c.self.view_is
+    (found_next c.args.cookie.0 queue (option_copied c.find-in-None.result) none h)

@@ -15,7 +15,8 @@ invariant_of-self-2 c =
     let none : conflicts lock.ask granted ≡ false =
     sym (c.conflicts.ensures ∙ ap (conflicts lock.ask) c.as_slice.ensures) ∙ c.if-conflicts.false in
     let more : c.push.new.self ≡ granted ++ lock ∷ [] = c.in_ok-push.ensures.added in
-    subst (λ xs. IsQueue (record { granted = xs; waiting = c.self.inside.waiting })) (sym more) (queue_with queue lock lock c.self.invariant new refl none)
+    subst (λ xs. IsQueue (record { granted = xs; waiting = c.self.inside.waiting })) (sym more)
+    (queue_with queue lock lock c.self.invariant new refl none)
 
 pub returns-clause-lawful : goal.returns-clause-lawful
 returns-clause-lawful c = invariant_of-self-2 c

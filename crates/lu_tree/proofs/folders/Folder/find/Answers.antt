@@ -1,8 +1,8 @@
 -- The map finds by the order what the definition finds by sameness.
 use Rattle.std.proofs.Common.{ap, ◌∙◌}
 use Rattle.std.specs.Map.{lookup}
-use Rattle.lu_machine.specs.Name.{same_name}
-use Rattle.lu_machine.specs.Tree.{Directory}
+use Rattle.lu_spec_machine.specs.Name.{same_name}
+use Rattle.lu_spec_machine.specs.Tree.{Directory}
 use Rattle.lu_tree.proofs.Maps.{name_found}
 use Rattle.lu_tree.proofs.folders.Folder.find.Goals as goal
 

@@ -2,8 +2,8 @@
 use Rattle.std.proofs.Common.{◌≡◌, not, ap, ◌∙◌, rules}
 use Rattle.std.specs.List.{filter}
 use Rattle.std.proofs.lemmas.Fn.{filter_same}
-use Rattle.lu_machine.specs.Footprint.{forget}
-use Rattle.lu_machine.specs.Tree.{Tree, same_life}
+use Rattle.lu_spec_machine.specs.Footprint.{forget}
+use Rattle.lu_spec_machine.specs.Tree.{Tree, same_life}
 use Rattle.lu_tree.proofs.Views.{tree_of}
 use Rattle.lu_tree.proofs.inodes.Inodes.drop_opens.Goals as goal
 

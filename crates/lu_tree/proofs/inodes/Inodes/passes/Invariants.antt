@@ -1,7 +1,7 @@
 -- Whether the rest of the walk passes the directory is whether the whole one does.
 use Rattle.std.proofs.Common.{◌≡◌, drop}
-use Rattle.lu_machine.specs.declared.child.Child.TheVariants.{Dir}
-use Rattle.lu_machine.specs.Table.{root, passes}
+use Rattle.lu_spec_machine.specs.declared.child.Child.TheVariants.{Dir}
+use Rattle.lu_spec_machine.specs.Table.{root, passes}
 use Rattle.lu_tree.specs.Walks.{trail}
 use Rattle.lu_tree.proofs.inodes.Inodes.passes.Given as goal
 

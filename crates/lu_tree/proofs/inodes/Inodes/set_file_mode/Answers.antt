@@ -1,9 +1,9 @@
 -- The file has the new mode, and each other one is as it was.
 use Rattle.std.proofs.Common.{sym, ap, ◌∙◌}
 use Rattle.std.specs.Map.{set_value}
-use Rattle.lu_machine.specs.declared.child.Child.TheVariants.{File}
-use Rattle.lu_machine.specs.Change.{SetMode, change}
-use Rattle.lu_machine.specs.Tree.{Tree}
+use Rattle.lu_spec_machine.specs.declared.child.Child.TheVariants.{File}
+use Rattle.lu_spec_machine.specs.Change.{SetMode, change}
+use Rattle.lu_spec_machine.specs.Tree.{Tree}
 use Rattle.lu_tree.proofs.FileMaps.{remoded}
 use Rattle.lu_tree.proofs.Views.{tree_of}
 use Rattle.lu_tree.proofs.inodes.Inodes.set_file_mode.Goals as goal

@@ -1,8 +1,8 @@
 -- The file has the new number, and each other one is as it was.
 use Rattle.std.proofs.Common.{sym, ap, ◌∙◌}
 use Rattle.std.specs.Map.{set_value}
-use Rattle.lu_machine.specs.Change.{SetLinks, change}
-use Rattle.lu_machine.specs.Tree.{Tree}
+use Rattle.lu_spec_machine.specs.Change.{SetLinks, change}
+use Rattle.lu_spec_machine.specs.Tree.{Tree}
 use Rattle.lu_tree.proofs.FileMaps.{relinked}
 use Rattle.lu_tree.proofs.Views.{tree_of}
 use Rattle.lu_tree.proofs.inodes.Inodes.set_links.Goals as goal

@@ -1,8 +1,8 @@
 -- What the row comes to is what the table says.
 use Rattle.std.proofs.Common.{sym, ap, ◌∙◌}
 use Rattle.std.proofs.lemmas.Result.{IfOk-weaker}
-use Rattle.lu_machine.specs.Footprint as footprint
-use Rattle.lu_machine.specs.Plan.{Outcome}
+use Rattle.lu_spec_machine.specs.Footprint as footprint
+use Rattle.lu_spec_machine.specs.Plan.{Outcome}
 use Rattle.lu_tree.specs.State.{TreeState, asked}
 use Rattle.lu_tree.proofs.trees.Tree.answer.Goals as goal
 

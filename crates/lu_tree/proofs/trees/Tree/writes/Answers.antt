@@ -1,8 +1,8 @@
 -- What is written is asked of the outcome.
 use Rattle.std.proofs.Common.{sym, ap, ◌++◌, ◌∙◌}
-use Rattle.lu_machine.specs.Change.{written}
-use Rattle.lu_machine.specs.Footprint as footprint
-use Rattle.lu_machine.specs.Plan.{Outcome}
+use Rattle.lu_spec_machine.specs.Change.{written}
+use Rattle.lu_spec_machine.specs.Footprint as footprint
+use Rattle.lu_spec_machine.specs.Plan.{Outcome}
 use Rattle.lu_tree.specs.Ends.{changes_of}
 use Rattle.lu_tree.specs.State.{TreeState, asked}
 use Rattle.lu_tree.proofs.trees.Tree.writes.Goals as goal

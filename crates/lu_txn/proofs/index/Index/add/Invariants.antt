@@ -1,7 +1,8 @@
 -- The place is filed under the parts so far.
 use Rattle.std.proofs.Common.{◌≡◌, true, take}
 use Rattle.lu_txn.specs.declared.index.Bucket.{Bucket}
-use Rattle.lu_txn.specs.Indexes.{places_of, has, files, Grows}
+use Rattle.lu_part.specs.Places.{has}
+use Rattle.lu_txn.specs.Indexes.{places_of, files, Grows}
 use Rattle.lu_txn.proofs.index.Index.add.Given as goal
 
 abbrev pub invariant-loop-part : goal.invariant-loop-part

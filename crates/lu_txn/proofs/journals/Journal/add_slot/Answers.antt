@@ -16,7 +16,8 @@ invariant_of-self-2 c =
     let room : vec_len removed + (c.len.result + 1) ≤ vec_capacity removed = c.in_ok-reserve-2.ensures.ok in
     let count : c.len.result ≡ length slots = c.len.ensures.count in
     let long : vec_len removed ≡ length removed.items = removed.ok.0 in (
-      rw c.in_ok-add.ensures.added (sound_slots _ (with_life who slots) _ _ _ c.self.invariant.0 (rises-with_life who slots c.self.invariant.0.lives) (tags-with_life who slots c.self.invariant.0.tags)),
+      rw c.in_ok-add.ensures.added (sound_slots _ (with_life who slots) _ _ _ c.self.invariant.0
+          (rises-with_life who slots c.self.invariant.0.lives) (tags-with_life who slots c.self.invariant.0.tags)),
       rw c.reserve-2.ensures.items c.self.invariant.1,
       rw c.in_ok-add.ensures.added (omega (arith, grown, room, count, long)),
     )

@@ -13,7 +13,9 @@ invariant_of-self-2 c =
     let number = c.args.number.0 in
     let above : journal.log.newest < number = subst (λ j. j.newest < number) (sym c.self.view_is) c.requires.above in
     let boot : number < (journal.boot + 1) * 2 ^ 32 = subst (λ j. number < (j.boot + 1) * 2 ^ 32) (sym c.self.view_is) c.requires.boot in (
-      rw (c.in_ok-push.ensures.added, c.in_ok-kept.ensures.same, c.keep.ensures.kept) (sound_appended c.args.number c.args.who c.args.tag c.args.op c.args.writes c.args.reply _ c.requires.tag above boot c.self.invariant.0),
+      rw (c.in_ok-push.ensures.added, c.in_ok-kept.ensures.same, c.keep.ensures.kept)
+          (sound_appended c.args.number c.args.who c.args.tag c.args.op c.args.writes c.args.reply _ c.requires.tag above boot
+          c.self.invariant.0),
       c.self.invariant.1,
       rw (c.keep.ensures.kept, length-with_reply c.args.who c.args.tag c.args.reply journal.slots) c.self.invariant.2,
     )
@@ -24,4 +26,5 @@ returns-clause-sound c = (invariant_of-self-2 c).0
 pub returns-clause-replies : goal.returns-clause-replies
 returns-clause-replies c = λ other t.
     let some : IsSome (slot_of c.args.who c.self.inside.slots) = search rules in
-    rw (c.keep.ensures.kept, ← c.self.view_is) (reply_after c.args.who c.args.tag c.args.reply c.self.inside.slots other t c.requires.tag c.self.invariant.0.tags some)
+    rw (c.keep.ensures.kept, ← c.self.view_is) (reply_after c.args.who c.args.tag c.args.reply c.self.inside.slots other t c.requires.tag
+    c.self.invariant.0.tags some)

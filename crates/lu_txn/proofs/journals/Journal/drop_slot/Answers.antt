@@ -20,7 +20,8 @@ invariant_of-self c =
     let fewer : length (without_life who slots) + 1 ≡ length slots = length-without_life who slots some in
     let more : length (removed.items ++ who ∷ []) ≡ length removed.items + 1 = length_push removed.items who in
     let room : length removed.items + length slots ≤ vec_capacity removed = c.self.invariant.2 in (
-      rw c.remove.ensures.removed (sound_slots _ (without_life who slots) _ _ _ c.self.invariant.0 (rises-without_life who slots c.self.invariant.0.lives) (tags-without_life who slots c.self.invariant.0.tags)),
+      rw c.remove.ensures.removed (sound_slots _ (without_life who slots) _ _ _ c.self.invariant.0
+          (rises-without_life who slots c.self.invariant.0.lives) (tags-without_life who slots c.self.invariant.0.tags)),
       rw c.push_reserved.ensures.items (omega (arith, more, c.self.invariant.1)),
       rw (c.push_reserved.ensures.items, c.remove.ensures.removed, c.push_reserved.ensures.capacity) (omega (arith, fewer, more, room)),
     )
@@ -35,7 +36,8 @@ returns-clause-dropped c = λ some.
     let kept : c.retain.new.self.items ≡ filter (λ life. not (same_life life who)) journal.added.items =
     filter_same _ _ _ (λ x b f' k. search rules) _ _ c.retain.ensures.filtered in
     let went : drop journal.settled c.push_reserved.new.self.items ≡ drop journal.settled journal.removed.items ++ who ∷ [] =
-    ap (drop journal.settled) c.push_reserved.ensures.items ∙ drop-append-le journal.settled journal.removed.items (who ∷ []) c.self.invariant.1 in
+    ap (drop journal.settled) c.push_reserved.ensures.items ∙ drop-append-le journal.settled journal.removed.items (who ∷ [])
+    c.self.invariant.1 in
     without_slot_is who
     (record {
       boot = journal.boot;

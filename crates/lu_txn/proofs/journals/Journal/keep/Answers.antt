@@ -20,4 +20,5 @@ returns-clause-sound c = (invariant_of-self c).0
 pub returns-clause-replies : goal.returns-clause-replies
 returns-clause-replies c = λ other t.
     let some : IsSome (slot_of c.args.who c.self.inside.slots) = search rules in
-    rw (c.keep.ensures.kept, ← c.self.view_is) (reply_after c.args.who c.args.tag c.args.reply c.self.inside.slots other t c.requires.tag c.self.invariant.0.tags some)
+    rw (c.keep.ensures.kept, ← c.self.view_is) (reply_after c.args.who c.args.tag c.args.reply c.self.inside.slots other t c.requires.tag
+    c.self.invariant.0.tags some)

@@ -22,4 +22,5 @@ pub returns-clause-added : goal.returns-clause-added
 returns-clause-added c =
     let entries = c.self.inside.by_life.entries in
     let none : lookup (at c.args.who) entries ≡ None = none_of _ (sym c.contains_key.ensures ∙ c.if-contains_key.false) in
-    rw (c.in_ok-insert.ensures.entries, c.empty.ensures) (life_added c.args.who entries c.self.invariant.keyed none ∙ ap (with_life c.args.who) c.self.view_is)
+    rw (c.in_ok-insert.ensures.entries, c.empty.ensures) (life_added c.args.who entries c.self.invariant.keyed none
+    ∙ ap (with_life c.args.who) c.self.view_is)

@@ -20,7 +20,8 @@ pub invariant_of-self-2 : goal.invariant_of-self-2
 invariant_of-self-2 c =
     let entries = c.self.inside.by_life.entries in
     let found : lookup (at c.args.who) entries ≡ Some c.in-Some.slot.now = sym c.in-Some.ensures.value in
-    by_life_all ((c.get_mut.follows.holds c.keep.new.self).0 ∙ ap (set_value (at c.args.who) entries) c.keep.ensures.kept) (by_life_kept c.args.who c.args.tag c.args.reply c.in-Some.slot.now entries c.self.invariant found)
+    by_life_all ((c.get_mut.follows.holds c.keep.new.self).0 ∙ ap (set_value (at c.args.who) entries) c.keep.ensures.kept)
+    (by_life_kept c.args.who c.args.tag c.args.reply c.in-Some.slot.now entries c.self.invariant found)
 
 pub returns : goal.returns
 returns c =

@@ -9,7 +9,10 @@ use Rattle.lu_txn.proofs.slots.Slots.lives.Goals as goal
 
 pub returns : goal.returns
 returns c =
-    let all : keys_of c.self.inside.by_life.entries ≡ lives_of c.args.self.now = keys_lives c.self.inside.by_life.entries c.self.invariant.keyed ∙ ap lives_of c.self.view_is in
+    let all : keys_of c.self.inside.by_life.entries ≡ lives_of c.args.self.now =
+    keys_lives c.self.inside.by_life.entries c.self.invariant.keyed ∙ ap lives_of c.self.view_is in
     record {
-      lives = subst (λ lives. IfOk c.collect.result (λ w. w.items ≡ lives)) all (items_from_collect _ c.collect.ensures.ran (YieldsList-from_copied (YieldsList-from_rest (keys_of c.self.inside.by_life.entries) (cc))));
+      lives = subst (λ lives. IfOk c.collect.result (λ w. w.items ≡ lives)) all
+          (items_from_collect _ c.collect.ensures.ran (YieldsList-from_copied
+          (YieldsList-from_rest (keys_of c.self.inside.by_life.entries) (cc))));
     }

@@ -6,5 +6,6 @@ use Rattle.lu_txn.proofs.slots.Slots.of.Goals as goal
 
 pub returns : goal.returns
 returns c = record {
-  slot = c.get.ensures.value ∙ slot_found c.args.who c.self.inside.by_life.entries c.self.invariant.keyed ∙ ap (slot_of c.args.who) c.self.view_is;
+  slot = c.get.ensures.value ∙ slot_found c.args.who c.self.inside.by_life.entries c.self.invariant.keyed
+      ∙ ap (slot_of c.args.who) c.self.view_is;
 }

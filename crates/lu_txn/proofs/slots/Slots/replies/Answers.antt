@@ -12,8 +12,10 @@ loop-slot-preserved c =
     let slots = c.next.new.self in
     let replies = c.loop-slot.replies in
     let all : c.loop-slot.slot-iterator ≡ slot ∷ slots = c.in-Some.ensures.steps in
-    let told : replies ++ kept_in (slot ∷ slots) ≡ kept_in c.args.self.now = subst (λ left. replies ++ kept_in left ≡ kept_in c.args.self.now) all c.loop-slot.invariant.0 in
+    let told : replies ++ kept_in (slot ∷ slots) ≡ kept_in c.args.self.now =
+    subst (λ left. replies ++ kept_in left ≡ kept_in c.args.self.now) all c.loop-slot.invariant.0 in
     let eight = subst (λ left. All (λ one. length one.replies ≡ tag_count) left) all c.loop-slot.invariant.1 in (
-      ap (λ more. more ++ kept_in slots) c.in_ok-add_to.ensures.added ∙ append_assoc replies (tagged slot.who 0 slot.replies) (kept_in slots) ∙ told,
+      ap (λ more. more ++ kept_in slots) c.in_ok-add_to.ensures.added
+          ∙ append_assoc replies (tagged slot.who 0 slot.replies) (kept_in slots) ∙ told,
       λ k d within. eight (suc k) d (omega arith),
     )

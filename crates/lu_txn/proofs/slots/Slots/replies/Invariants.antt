@@ -6,4 +6,5 @@ use Rattle.lu_txn.specs.Slots.{kept_in}
 use Rattle.lu_txn.proofs.slots.Slots.replies.Given as goal
 
 abbrev pub invariant-loop-slot : goal.invariant-loop-slot
-invariant-loop-slot l = (l.replies ++ kept_in l.slot-iterator ≡ kept_in l.self) × All (λ slot. length slot.replies ≡ tag_count) l.slot-iterator
+invariant-loop-slot l = (l.replies ++ kept_in l.slot-iterator ≡ kept_in l.self)
+    × All (λ slot. length slot.replies ≡ tag_count) l.slot-iterator

@@ -2,7 +2,7 @@
 use Rattle.std.proofs.Common.{◌∙◌, [], ap, sym, arith}
 use Rattle.std.proofs.lemmas.List.Sums.{fold_more}
 use Rattle.lu_base.specs.declared.ids.Who.{Who}
-use Rattle.lu_target_rows.specs.Lives.{with_life}
+use Rattle.lu_spec_target.specs.Lives.{with_life}
 use Rattle.lu_window.proofs.Maps.{life_put}
 use Rattle.lu_window.proofs.members.Members.new.Goals as goal
 

@@ -1,7 +1,7 @@
 -- The lives so far.
 use Rattle.std.proofs.Common.{◌≡◌, [], take}
 use Rattle.std.specs.Prelude.{fold}
-use Rattle.lu_target_rows.specs.Lives.{with_life}
+use Rattle.lu_spec_target.specs.Lives.{with_life}
 use Rattle.lu_window.proofs.members.Members.new.Given as goal
 
 abbrev pub invariant-loop-who : goal.invariant-loop-who

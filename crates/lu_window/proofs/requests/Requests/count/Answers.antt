@@ -1,6 +1,6 @@
 -- The count is that of the replays as contracts see them.
 use Rattle.std.proofs.Common.{◌∙◌, length, filter, ap, sym}
-use Rattle.lu_words.specs.Words.{same_life}
+use Rattle.lu_spec_entries.specs.Words.{same_life}
 use Rattle.lu_window.specs.Shown.{replayed_of}
 use Rattle.lu_window.proofs.Maps.{count_map}
 use Rattle.lu_window.proofs.requests.Requests.count.Goals as goal

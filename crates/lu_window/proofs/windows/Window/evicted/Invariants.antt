@@ -1,6 +1,6 @@
 -- The evictions so far, and those of the lives to come.
 use Rattle.std.proofs.Common.{◌≡◌, ◌++◌, map}
-use Rattle.lu_target_rows.specs.Windows.{gone_from}
+use Rattle.lu_spec_target.specs.Windows.{gone_from}
 use Rattle.lu_window.specs.Shown.{gone}
 use Rattle.lu_window.proofs.windows.Window.evicted.Given as goal
 

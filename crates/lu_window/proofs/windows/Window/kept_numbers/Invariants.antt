@@ -1,6 +1,6 @@
 -- With the replays to come, those so far give the kept numbers.
 use Rattle.std.proofs.Common.{map}
-use Rattle.lu_target_rows.specs.Windows.{kept_from, kept_numbers}
+use Rattle.lu_spec_target.specs.Windows.{kept_from, kept_numbers}
 use Rattle.lu_window.specs.Shown.{replayed_of}
 use Rattle.lu_window.proofs.Closes.{Same}
 use Rattle.lu_window.proofs.windows.Window.kept_numbers.Given as goal

@@ -1,7 +1,7 @@
 -- The life of the client that wishes to join, if there is one.
 use Rattle.std.proofs.Common.{◌≡◌, ◌∙◌, ap, sym, Some, None}
 use Rattle.std.specs.Prelude.{option_map}
-use Rattle.lu_target_rows.specs.Windows.{wish_of, is_after}
+use Rattle.lu_spec_target.specs.Windows.{wish_of, is_after}
 use Rattle.lu_window.specs.Shown.{wish}
 use Rattle.lu_window.proofs.Maps.{wish_found}
 use Rattle.lu_window.proofs.wishes.Wishes.is_newest.Goals as goal

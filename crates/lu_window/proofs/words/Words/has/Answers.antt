@@ -1,7 +1,7 @@
 -- A life's word stands under the life.
 use Rattle.std.proofs.Common.{◌∙◌, ap}
 use Rattle.std.specs.List.{list_any}
-use Rattle.lu_words.specs.Words.{same_life}
+use Rattle.lu_spec_entries.specs.Words.{same_life}
 use Rattle.lu_window.proofs.Maps.{word_among}
 use Rattle.lu_window.proofs.words.Words.has.Goals as goal
 

@@ -1,7 +1,7 @@
 -- A life's word stands under the life.
 use Rattle.std.proofs.Common.{◌∙◌, ap}
 use Rattle.std.specs.Prelude.{option_map}
-use Rattle.lu_target_rows.specs.Windows.{word_of}
+use Rattle.lu_spec_target.specs.Windows.{word_of}
 use Rattle.lu_window.specs.Shown.{said}
 use Rattle.lu_window.proofs.Maps.{word_found}
 use Rattle.lu_window.proofs.words.Words.of.Goals as goal

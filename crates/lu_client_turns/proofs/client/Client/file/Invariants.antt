@@ -1,9 +1,0 @@
--- The file isn't bound before.
-use Rattle.std.proofs.Common.{◌≡◌, drop}
-use Rattle.std.specs.Prelude.{map}
-use Rattle.lu_client_rows.specs.Calls.{file_of}
-use Rattle.lu_client_turns.specs.Clients.{bound_of}
-use Rattle.lu_client_turns.proofs.client.Client.file.Given as goal
-
-abbrev pub invariant-loop-bound : goal.invariant-loop-bound
-invariant-loop-bound l = file_of l.handle (map bound_of (drop l.bound-index l.bound-items)) ≡ file_of l.handle l.self.client.handles

@@ -1,6 +1,0 @@
--- This slot and those after it are left.
-use Rattle.lu_client_turns.specs.Recovering.{ForgetsOn}
-use Rattle.lu_client_turns.proofs.client.Client.forget_asks.Given as goal
-
-abbrev pub invariant-loop-slot : goal.invariant-loop-slot
-invariant-loop-slot l = ForgetsOn l.target l.slot l.initial.self l.self

@@ -1,7 +1,0 @@
--- This target and those after it are left.
-use Rattle.lu_client_parts.specs.Rounds.{joins_left}
-use Rattle.lu_client_turns.specs.Clients.{Remains}
-use Rattle.lu_client_turns.proofs.client.Client.join_all.Given as goal
-
-abbrev pub invariant-loop-target : goal.invariant-loop-target
-invariant-loop-target l = Remains (joins_left 0) (joins_left l.target) l.fn.self l.fn.self l.initial.turn l.turn

@@ -1,2 +1,0 @@
-pub mod Scenes
-pub use Rattle.lu_covered_scenes.specs.Quiet

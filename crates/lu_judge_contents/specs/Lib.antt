@@ -1,3 +1,0 @@
-pub mod Contents
-pub mod Events
-pub mod Names

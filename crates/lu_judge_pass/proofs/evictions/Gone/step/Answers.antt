@@ -1,0 +1,8 @@
+use Rattle.lu_judge_pass.proofs.Shown.{add}
+use Rattle.lu_judge_pass.proofs.evictions.Gone.step.Goals as goal
+
+pub returns-in_ok-insert-in-Target : goal.returns-in_ok-insert-in-Target
+returns-in_ok-insert-in-Target c = record {
+  shows = λ past shown who.
+      rw (c.in-Evict.is, c.in-Target.is) (add _ _ _ _ (c.in_ok-insert-in-Target.ensures.updates.0 (who.client, who.life)) (shown who));
+}

@@ -1,0 +1,4 @@
+pub mod Firsts
+pub mod Ledgers
+pub mod Places
+pub mod Tables

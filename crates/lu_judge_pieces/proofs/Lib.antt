@@ -1,4 +1,0 @@
-pub mod Filed
-pub mod Firsts
-pub mod Pages
-pub mod Searches

@@ -1,0 +1,19 @@
+-- The words that are read so far, and one that isn't.
+use Rattle.std.proofs.Common.{ℕ, List, Bor}
+use Rattle.lu_base.specs.Texts.{IsName}
+use Rattle.lu_judge_reader.specs.Values.{name_of}
+use Rattle.lu_judge_reader.proofs.Alls.{words_more, words_fault, fits_more}
+use Rattle.lu_judge_reader.proofs.lists.all_names.Goals as goal
+
+pub returns-in-Err-clause-read : goal.returns-in-Err-clause-read
+returns-in-Err-clause-read c =
+    words_fault name_of (λ (w : Bor (List ℕ)). w.now) c.args.words.now c.loop-word.word-index _ c.loop-word.names c.in-Err.fault
+    c.loop-word-test.true c.loop-word.invariant.0 c.in-Err.ensures.read
+
+pub loop-word-preserved : goal.loop-word-preserved
+loop-word-preserved c = (
+  words_more name_of (λ (w : Bor (List ℕ)). w.now) c.args.words.now c.loop-word.word-index _ c.loop-word.names c.push.new.self c.in-Ok.name
+      c.loop-word-test.true c.loop-word.invariant.0 c.in-Ok.ensures.read c.in_ok-push-in-Ok.ensures.added,
+  fits_more IsName c.loop-word.names c.push.new.self c.in-Ok.name c.loop-word.invariant.1 c.in-Ok.ensures.fits
+      c.in_ok-push-in-Ok.ensures.added,
+)

@@ -1,2 +1,0 @@
-pub mod FormedLines
-pub mod LogLines

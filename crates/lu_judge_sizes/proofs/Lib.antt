@@ -1,5 +1,0 @@
-pub mod Few
-pub mod Formed
-pub mod Kept
-pub mod Put
-pub mod Standing

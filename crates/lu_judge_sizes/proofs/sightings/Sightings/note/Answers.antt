@@ -1,4 +1,0 @@
-use Rattle.lu_judge_sizes.proofs.sightings.Sightings.note.Goals as goal
-
-pub returns : goal.returns
-returns c = record { last = λ f s n. c.in_ok-insert.ensures.updates.0 ((f.0, s), n) }

@@ -1,7 +1,0 @@
-use Rattle.std.proofs.Common.{◌≡◌}
-use Rattle.std.specs.Prelude.{filter}
-use Rattle.lu_judge_written.specs.Logs.{is_above}
-use Rattle.lu_judge_written.proofs.logs.Log.rebuild.Given as goal
-
-abbrev pub invariant-loop-item : goal.invariant-loop-item
-invariant-loop-item l = l.self ≡ filter (is_above l.above) l.yielded

@@ -1,3 +1,0 @@
-pub mod Fits
-pub mod Everywhere
-pub use Rattle.lu_laws.specs.Lawful

@@ -1,5 +1,0 @@
-use Rattle.lu_laws.proofs.Leaves.{acts_leave}
-use Rattle.lu_laws.proofs.theorems.acts_leave.Goals as goal
-
-pub returns : goal.returns
-returns c = acts_leave

@@ -1,8 +1,0 @@
--- The locks so far are called back.
-use Rattle.std.proofs.Common.{◌≡◌, take}
-use Rattle.lu_locking.specs.Calling.{calling, call_all}
-use Rattle.lu_locking.proofs.calling.call_all.Given as goal
-
-abbrev pub invariant-loop-cookie : goal.invariant-loop-cookie
-invariant-loop-cookie l =
-    calling l.calls l.called.items ≡ call_all l.space l.tick l.initial.calls (take l.cookie-index l.cookies)

@@ -1,7 +1,0 @@
--- What is told so far.
-use Rattle.std.proofs.Common.{◌≡◌, ◌++◌, take}
-use Rattle.lu_locking.specs.Leaving.{granted_on}
-use Rattle.lu_locking.proofs.departing.tell_granted.Given as goal
-
-abbrev pub invariant-loop-lock : goal.invariant-loop-lock
-invariant-loop-lock l = l.steps.items ≡ l.initial.steps.items ++ granted_on l.resource (take l.lock-index l.granted)

@@ -1,5 +1,0 @@
-use Rattle.lu_machine.proofs.Leads.{leads_stay}
-use Rattle.lu_machine.proofs.theorems.leading.Goals as goal
-
-pub returns : goal.returns
-returns c = leads_stay

@@ -1,5 +1,0 @@
-use Rattle.lu_machine.proofs.Layouts.{new_layouts}
-use Rattle.lu_machine.proofs.theorems.striping.Goals as goal
-
-pub returns : goal.returns
-returns c = new_layouts

@@ -1,6 +1,0 @@
-use Rattle.lu_table.specs.Scenarios.{head_of}
-use Rattle.lu_nodes.proofs.ClientTurns.{shows_first}
-use Rattle.lu_nodes.proofs.clients.ClientSeat.new.Goals as goal
-
-pub returns : goal.returns
-returns c = record { shows = shows_first (head_of c.args.head.now) c.args.number c.in_ok-client.client c.in_ok-client.ensures.first }

@@ -1,7 +1,0 @@
-pub mod Lives
-pub mod Locks
-pub mod Requests
-pub mod Calls
-pub mod Messages
-pub mod Closes
-pub mod Stories

@@ -1,4 +1,0 @@
-pub mod Runs
-pub mod Patches
-pub mod Objects
-pub mod Locks

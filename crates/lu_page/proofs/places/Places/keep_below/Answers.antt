@@ -1,0 +1,14 @@
+use Rattle.std.proofs.Common.{◌≡◌, ℕ, ◌+◌, ◌^◌, ◌<◌, ◌≤◌, ◌∙◌, not, Bool, true, false, refl, sym, ap, subst, arith}
+use Rattle.lu_spec_machine.specs.Places.{is_in, below, inside}
+use Rattle.lu_spec_bytes.specs.Maps.{AllBelow}
+use Rattle.lu_spec_bytes.specs.Changes.{outside, unmarked, zeroed}
+use Rattle.lu_page.proofs.Joined.{joined_below}
+use Rattle.lu_page.proofs.Steps.{removes, outside_below}
+use Rattle.lu_page.proofs.places.Places.keep_below.Goals as goal
+
+pub returns : goal.returns
+returns g c = record {
+  below = c.edit.ensures.edited ∙ removes (record { first = c.args.n; last = 18446744073709551615 }) _
+      ∙ outside_below c.args.n 18446744073709551615 _ (joined_below 0 c.self.inside.pages.entries c.self.invariant) (omega arith)
+      ∙ ap (below c.args.n) c.self.view_is;
+}

@@ -1,9 +1,0 @@
-use Rattle.std.proofs.Common.{◌≡◌, ◌^◌, ◌≤◌, ◌∙◌, ap, arith}
-use Rattle.lu_machine.specs.Places.{end_of}
-use Rattle.lu_places.specs.Pages.{joined}
-use Rattle.lu_places.proofs.Joined.{joined_below}
-use Rattle.lu_places.proofs.Seen.{whole_inside}
-use Rattle.lu_places.proofs.looks.end.Goals as goal
-
-pub returns : goal.returns
-returns g c = record { end = c.end_in.ensures.end ∙ ap end_of (whole_inside 18446744073709551615 (joined c.args.pages.now.entries) (joined_below 0 c.args.pages.now.entries c.requires.pages) (omega arith)) }

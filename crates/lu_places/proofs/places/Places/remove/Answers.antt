@@ -1,9 +1,0 @@
-use Rattle.std.proofs.Common.{◌≡◌, ℕ, ◌+◌, ◌^◌, ◌<◌, ◌≤◌, ◌∙◌, not, Bool, true, false, refl, sym, ap, subst, arith}
-use Rattle.lu_machine.specs.Places.{is_in, below, inside}
-use Rattle.lu_bytes.specs.Maps.{AllBelow}
-use Rattle.lu_bytes.specs.Changes.{outside, unmarked, zeroed}
-use Rattle.lu_places.proofs.Steps.{removes}
-use Rattle.lu_places.proofs.places.Places.remove.Goals as goal
-
-pub returns : goal.returns
-returns g c = record { outside = c.edit.ensures.edited ∙ removes c.args.extent _ ∙ ap (outside c.args.extent) c.self.view_is }

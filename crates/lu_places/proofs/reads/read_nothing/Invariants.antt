@@ -1,6 +1,0 @@
-use Rattle.std.proofs.Common.{◌≡◌, ◌+◌, ◌-◌, ◌++◌, []}
-use Rattle.lu_bytes.specs.Runs.{found_run}
-use Rattle.lu_places.proofs.reads.read_nothing.Given as goal
-
-abbrev pub invariant-loop-k : goal.invariant-loop-k
-invariant-loop-k g l = l.into.items ++ found_run (l.count - l.k) [] (l.at + l.k) ≡ l.initial.into.items ++ found_run l.count [] l.at

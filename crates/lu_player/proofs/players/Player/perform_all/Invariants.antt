@@ -1,7 +1,0 @@
-use Rattle.std.proofs.Common.{drop}
-use Rattle.lu_player.proofs.Performing.{LeavesAll}
-use Rattle.lu_player.proofs.players.Player.perform_all.Given as goal
-
--- the other lines are left
-abbrev pub invariant-loop-line : goal.invariant-loop-line
-invariant-loop-line g l = LeavesAll l.initial.self l.lines l.self (drop l.line-index l.lines)

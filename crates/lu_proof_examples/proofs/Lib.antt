@@ -1,0 +1,4 @@
+pub mod Targets
+pub mod Clients
+pub mod Runs
+pub mod Objects

@@ -1,0 +1,5 @@
+pub mod Preconditions
+pub mod Invariants
+pub mod Laws
+pub mod Projection
+pub mod Refinement

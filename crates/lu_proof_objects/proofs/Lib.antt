@@ -1,0 +1,16 @@
+pub mod Runs
+pub mod Patches
+pub mod Objects
+pub mod Locks
+pub mod Lists
+pub mod Tables
+pub mod Changes
+pub mod Steps
+pub mod Known
+pub mod Others
+pub mod Walks
+pub mod Pieces
+pub mod Made
+pub mod Using
+pub mod Calls
+pub mod Pins

@@ -1,0 +1,15 @@
+pub mod Clients
+pub mod Targets
+pub mod Lives
+pub mod Disks
+pub mod Numbers
+pub mod Posts
+pub mod Unfailing
+pub mod ClientUnfailing
+pub mod Unfailed
+pub mod Runs
+pub mod Sparing
+pub mod Turning
+pub mod Due
+pub mod Messages
+pub mod Strangers

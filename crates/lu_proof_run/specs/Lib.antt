@@ -1,0 +1,4 @@
+pub mod Numbering
+pub mod Posts
+pub mod InTable
+pub mod Steps

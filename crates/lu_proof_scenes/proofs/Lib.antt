@@ -1,0 +1,43 @@
+pub mod Every
+pub mod Asking
+pub mod Clients
+pub mod ClientSlots
+pub mod ClientRows
+pub mod Served
+pub mod Windows
+pub mod Targets
+pub mod Numbers
+pub mod NumberRows
+pub mod Lines
+pub mod Arrivals
+pub mod Turns
+pub mod Runs
+pub mod Stated
+pub mod AnyTurn
+pub mod AnyRun
+pub mod AnyLeft
+pub mod AnyStated
+pub use Rattle.lu_proof_lawful.proofs.Invariants.All
+pub use Rattle.lu_proof_lawful.proofs.Invariants.Asked
+pub use Rattle.lu_proof_lawful.proofs.Invariants.Groups
+pub use Rattle.lu_proof_lawful.proofs.Invariants.OnNames
+pub use Rattle.lu_proof_lawful.proofs.Invariants.Sides
+pub use Rattle.lu_proof_lawful.proofs.Invariants.Lines as FactLines
+pub use Rattle.lu_proof_lawful.proofs.Invariants.Refused
+pub use Rattle.lu_proof_lawful.proofs.Invariants.BareObjects
+pub use Rattle.lu_proof_lawful.proofs.Invariants.BareCalls
+pub use Rattle.lu_proof_lawful.proofs.Invariants.BareSteps
+pub use Rattle.lu_proof_lawful.proofs.Preconditions.Guards
+pub use Rattle.lu_proof_lawful.proofs.Preconditions.StoryGuards
+pub use Rattle.lu_proof_lawful.proofs.Preconditions.Grown
+pub use Rattle.lu_proof_lawful.proofs.Preconditions.Lists
+pub use Rattle.lu_proof_lawful.proofs.Preconditions.Parts
+pub use Rattle.lu_proof_lawful.proofs.Preconditions.Turns as GuardTurns
+pub use Rattle.lu_proof_lawful.proofs.Preconditions.ClientLines
+pub use Rattle.lu_proof_lawful.proofs.Preconditions.ClientLocks
+pub use Rattle.lu_proof_lawful.proofs.Preconditions.ClientHears
+pub use Rattle.lu_proof_lawful.proofs.Preconditions.ClientReplies
+pub use Rattle.lu_proof_lawful.proofs.Preconditions.Held
+pub use Rattle.lu_proof_lawful.proofs.Preconditions.Only
+pub use Rattle.lu_proof_lawful.proofs.Preconditions.LockKinds
+pub use Rattle.lu_proof_lawful.proofs.Invariants.LockLists as FactLockLists

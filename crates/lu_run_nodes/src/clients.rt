@@ -1,0 +1,159 @@
+//! A client of a run, living or dead.
+
+ghost use Rattle.std.specs.Prelude.{◌≡◌, ◌≢◌, ◌<◌, ℕ, false, [], ◌∷◌, Err, IfOk};
+ghost use Rattle.lu_base.specs.declared.ids.Node.TheVariants as node;
+ghost use Rattle.lu_client.specs.Ranges.{IsCall};
+ghost use Rattle.lu_msg.specs.Limits.{slot_count};
+ghost use Rattle.lu_spec_entries.specs.Given.{step_of};
+ghost use Rattle.lu_spec_entries.specs.Words.{Busy as BusyLine};
+ghost use Rattle.lu_spec_client.specs.Rows.{Begins, Comes, Ticks, Dies};
+ghost use Rattle.lu_client.specs.Comings.{may_come};
+ghost use Rattle.lu_trace.specs.declared.traces.Step.{Step as StepOf};
+ghost use Rattle.lu_spec_run.specs.Heads.{IsHead};
+ghost use Rattle.lu_spec_run.specs.Scenarios.{head_of, with_stripes};
+ghost use Rattle.lu_run_nodes.specs.declared.faults.TurnFault.TheVariants as fault;
+ghost use Rattle.lu_run_nodes.specs.Shown.{ShowsClient, IsClientShown};
+ghost use Rattle.lu_run_nodes.specs.Turns.{turn_at, ClientMakes};
+
+use super::faults::TurnFault;
+use lu_base::{At, Duplicate, Memory, Node, Stamp, TargetId};
+use lu_client::{Client, ClientFault};
+use lu_msg::{Call, Message};
+use lu_scene::Head;
+use lu_trace::{Entry, Step, Turn};
+use std::alloc::Global;
+use std::marker::Model;
+
+/// A client, and whether it is dead.
+#[derive(Drop)]
+pub(crate) struct ClientSeat {
+    alloc: Global,
+    number: u16,
+    client: Client,
+    dead: bool,
+}
+
+impl Model for ClientSeat {
+    ghost use Rattle.std.specs.Prelude.{◌≡◌};
+    ghost use Rattle.lu_run_nodes.specs.States.{ClientSeat as Seat};
+
+    ghost Value = { Seat };
+
+    ghost view = { λ s. record { number = s.number; client = s.client; dead = s.dead } };
+}
+
+impl ClientSeat {
+    /// The client of this number before its first turn.
+    pub(crate) fn new(alloc: Global, number: u16, head: &Head) -> Result<ClientSeat, Memory>
+        requires head { IsHead (head_of head.now) }
+        ensures shows { IfOk result (ShowsClient (head_of head.now) 0 [] number) }
+    {
+        let client = Client::new(
+            alloc,
+            number,
+            head.osts,
+            head.flight as u8,
+            head.dirty,
+            head.unused,
+        )?;
+        Ok(ClientSeat {
+            alloc,
+            number,
+            client,
+            dead: false,
+        })
+    }
+
+    /// Whether it is dead.
+    pub(crate) fn is_dead(&self) -> bool
+        ensures dead { result ≡ self.now.dead }
+    {
+        self.dead
+    }
+
+    /// The turn in which a call begins, or in which its slot is busy.
+    pub(crate) fn begin(&mut self, stamp: Stamp, slot: u8, call: &Call) -> Result<Step, Memory>
+        requires shown { IsClientShown self.old }
+        requires slot { slot < slot_count }
+        requires range { IsCall call.now }
+        ensures made { IfOk result (ClientMakes (Begins slot (with_stripes call.now))
+            (Begins slot (with_stripes call.now))
+            stamp self.old self.new) }
+    {
+        let call = with_stripes(call.copy(self.alloc)?);
+        match self.client.begin(stamp, slot, call) {
+            Ok(step) => Ok(step),
+            Err(ClientFault::Busy) => self.busy(stamp, slot),
+            Err(ClientFault::Memory) => Err(Memory),
+        }
+    }
+
+    /// The turn in which a slot is busy.
+    fn busy(&self, stamp: Stamp, slot: u8) -> Result<Step, Memory>
+        ensures step { IfOk result (λ step. step
+            ≡ step_of (turn_at stamp (node.Client self.now.number)) (BusyLine slot ∷ [])) }
+    {
+        let node = Node::Client(self.number);
+        let mut turn = Turn::new(self.alloc, At { stamp, node });
+        turn.note(Entry::Busy(slot))?;
+        Ok(turn.into_step())
+    }
+
+    /// The turn in which a message comes. The client doesn't know the message's number.
+    pub(crate) fn deliver(
+        &mut self,
+        stamp: Stamp,
+        from: Node,
+        message: &Message,
+    ) -> Result<Step, TurnFault>
+        requires shown { IsClientShown self.old }
+        ensures undisked { (step : StepOf) → result ≢ Err (fault.Disk step) }
+        ensures made { IfOk result (λ step. (n : ℕ)
+            → ClientMakes (Comes 0 from message.now) (Comes n from message.now) stamp self.old self.new step) }
+        ensures foreseen { result ≡ Err fault.Unforeseen → (t : ℕ) → from ≡ node.Target t
+            → may_come from message.now self.old.client.client ≡ false }
+    {
+        let Node::Target(target) = from else {
+            return Err(TurnFault::Unforeseen);
+        };
+        let target = TargetId(target);
+        if !self.client.accepts(target, message) {
+            return Err(TurnFault::Unforeseen);
+        }
+        Ok(self.client.deliver(stamp, target, message)?)
+    }
+
+    /// The turn in which its time goes on.
+    pub(crate) fn tick(&mut self, stamp: Stamp) -> Result<Step, Memory>
+        requires shown { IsClientShown self.old }
+        ensures made { IfOk result (ClientMakes Ticks Ticks stamp self.old self.new) }
+    {
+        self.client.tick(stamp)
+    }
+
+    /// The turn in which it dies.
+    pub(crate) fn die(&mut self, stamp: Stamp) -> Result<Step, Memory>
+        requires shown { IsClientShown self.old }
+        ensures made { IfOk result (ClientMakes Dies Dies stamp self.old self.new) }
+    {
+        let step = self.client.die(stamp)?;
+        self.dead = true;
+        Ok(step)
+    }
+}
+
+/// A `create` that doesn't say its stripes has those that the language of scenarios gives it: of 1 MiB, one of them.
+fn with_stripes(call: Call) -> Call
+    ensures call { result ≡ with_stripes call }
+{
+    match call {
+        Call::Create {
+            path,
+            stripes: None,
+        } => Call::Create {
+            path,
+            stripes: Some((1_048_576, 1)),
+        },
+        other => other,
+    }
+}

@@ -1,0 +1,21 @@
+-- Its lines are written and its messages sent: the wire shows the run with that turn.
+use Rattle.std.proofs.Common.{◌+◌, rules}
+use Rattle.lu_run_wire.specs.Wires.{WireState}
+use Rattle.lu_run_wire.proofs.Turns.{Adds, turn_added}
+use Rattle.lu_run_wire.proofs.wires.Wire.add.Goals as goal
+
+pub returns : goal.returns
+returns c =
+    let old = c.args.self.now in
+    let new : WireState = record {
+      links = c.self.inside.links;
+      entries = c.self.inside.entries;
+      turns = c.self.inside.turns + 1;
+      messages =
+          c.self.inside.messages;
+    } in
+    let at = c.args.at in
+    let step = c.args.step in
+    let adds : Adds old new at step.entries step.sends =
+    record { entries = search rules; links = search rules; turns = search rules; messages = search rules } in
+    record { shows = turn_added old new at step adds }

@@ -1,7 +1,0 @@
-//! Stores of targets: rows of calls over disks in memory, each with what it must answer.
-//!
-//! The tests stand in a crate of their own, since a crate with tests is proved twice.
-#![tactic(auto)]
-
-#[cfg(test)]
-mod stores;

@@ -1,0 +1,15 @@
+pub mod Running
+pub mod Faults
+pub mod Targets
+pub mod Repeating
+pub use Rattle.lu_target_server.specs.Shown
+pub use Rattle.lu_target_server.specs.Sound
+pub use Rattle.lu_target_server.specs.LockServers
+pub use Rattle.lu_target_server.specs.StoreCommits
+pub use Rattle.lu_target_server.specs.Journals
+pub use Rattle.lu_target_server.specs.Windows
+pub use Rattle.lu_target_server.specs.Booting
+pub use Rattle.lu_target_server.specs.Passing
+pub use Rattle.lu_target_server.specs.Recovering
+pub use Rattle.lu_target_server.specs.Servers
+pub use Rattle.lu_target_server.specs.declared.booting.Place

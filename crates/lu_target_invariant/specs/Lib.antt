@@ -1,0 +1,4 @@
+pub mod Requests
+pub mod Sound
+pub mod Numbers
+pub mod Repeats

@@ -1,0 +1,7 @@
+-- The lives so far are those of the clients so far.
+use Rattle.std.proofs.Common.{◌≡◌}
+use Rattle.lu_spec_target.specs.States.{lives_from}
+use Rattle.lu_test_nodes.proofs.targets.first_lives.Given as goal
+
+abbrev pub invariant-loop-client : goal.invariant-loop-client
+invariant-loop-client l = l.lives ≡ lives_from 0 l.client

@@ -1,0 +1,3 @@
+pub mod StoreDisks
+pub mod More
+pub mod Told

@@ -1,8 +1,0 @@
--- What is left of the lines comes to what all come to.
-use Rattle.std.proofs.Common.{◌≡◌, drop}
-use Rattle.lu_turns.specs.Closing.{lines, evict_line}
-use Rattle.lu_words.specs.Given.{giving}
-use Rattle.lu_turns.proofs.closing.tell_all_gone.Given as goal
-
-abbrev pub invariant-loop-eviction : goal.invariant-loop-eviction
-invariant-loop-eviction l = giving l.turn (lines (evict_line l.boot) (drop l.eviction-index l.eviction-items)) ≡ giving l.initial.turn (lines (evict_line l.boot) l.eviction-items)

@@ -1,6 +1,0 @@
--- The requests before this place did what they may, and none acted.
-use Rattle.lu_turns.proofs.Sweeps.{IsAtPlace}
-use Rattle.lu_turns.proofs.server.Server.pass.Given as goal
-
-abbrev pub invariant-loop-place : goal.invariant-loop-place
-invariant-loop-place g l = IsAtPlace l.place l.stood l.fn.self l.self l.fn.turn l.turn

@@ -1,3 +1,0 @@
-pub mod Orders
-pub mod Only
-pub mod Found

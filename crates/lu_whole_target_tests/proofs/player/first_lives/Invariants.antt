@@ -1,7 +1,0 @@
--- The lives so far are those of the clients so far.
-use Rattle.std.proofs.Common.{◌≡◌}
-use Rattle.lu_target_rows.specs.States.{lives_from}
-use Rattle.lu_whole_target_tests.proofs.player.first_lives.Given as goal
-
-abbrev pub invariant-loop-client : goal.invariant-loop-client
-invariant-loop-client l = l.lives ≡ lives_from 0 l.client
