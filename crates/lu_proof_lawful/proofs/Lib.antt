@@ -3,3 +3,4 @@ pub mod Invariants
 pub mod Laws
 pub mod Projection
 pub mod Refinement
+pub mod Coming

@@ -60,7 +60,7 @@ pub mod AskedLocks
 pub mod ClosedHeld
 pub mod AskedOwn
 pub mod StoreTakes
-pub mod DirtyLow
+pub mod PatchesLow
 pub mod MayBase
 pub mod HistoryLost
 pub mod MayFly

@@ -70,7 +70,7 @@ use Rattle.lu_proof_lawful.specs.Projection.Locks.{lock_of, given}
 use Rattle.lu_proof_lawful.specs.Projection.Requests.{op_of, op_on, get_under}
 use Rattle.lu_proof_lawful.specs.Projection.Messages.{request_as}
 use Rattle.lu_proof_lawful.specs.Projection.Stories.{story}
-use Rattle.lu_proof_lawful.proofs.Refinement.DirtyLow.{dirty_low}
+use Rattle.lu_proof_lawful.proofs.Refinement.PatchesLow.{dirty_low}
 use Rattle.lu_proof_lawful.proofs.Refinement.OverLives.{live_lasts, noticed_over}
 use Rattle.lu_proof_lawful.proofs.Refinement.Tied.{Here}
 use Rattle.lu_proof_lawful.proofs.Refinement.TiedStore.{store_owed}
