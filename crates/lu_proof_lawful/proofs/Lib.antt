@@ -4,3 +4,4 @@ pub mod Laws
 pub mod Projection
 pub mod Refinement
 pub mod Coming
+pub mod Failing

@@ -12,6 +12,7 @@ ghost use Rattle.lu_spec_laws.specs.Laws.Glimpse.{Glimpse};
 ghost use Rattle.lu_spec_laws.specs.Lawful.{Lawful};
 ghost use Rattle.lu_spec_laws.specs.Orderly.{Orderly};
 ghost use Rattle.lu_proof_lawful.specs.Everywhere.{OfEveryRun, OfAllThatFit};
+ghost use Rattle.lu_proof_lawful.specs.Failing.{OfEveryFailedRun, OfEveryFailedStart};
 
 /// The printed trace of every run of the whole table whose lines are covered is lawful, by all seven laws:
 /// whatever bytes are read, written and cut, whatever the network loses, repeats or reorders, whoever waits for a lock, whoever is evicted and joins in a new life,
@@ -44,4 +45,12 @@ pub fn covered_runs_are_lawful()
 /// followed by the commit of what it keeps; and what it keeps and restores was handed in since the boot.
 pub fn covered_runs_are_orderly()
     ensures orderly { OfEveryRun (λ osts whole. Orderly osts whole) }
+{}
+
+/// The printed trace of a run that a failing disk ends is lawful, by all seven laws: where all lines before the last turn are
+/// covered, and this one's would be, had its call to the disk not failed, the lines up to that call and `fail` break no law,
+/// wherever in the turn the call stands. So is the trace of a run of which a target's start fails: one line.
+pub fn runs_that_a_failing_disk_ends_are_lawful()
+    ensures failed { OfEveryFailedRun (λ osts whole. Lawful osts whole) }
+    ensures start { OfEveryFailedStart (λ osts whole. Lawful osts whole) }
 {}

@@ -75,7 +75,7 @@ module _ (head : Head) where
       let patch = patch_at lock.resource (patches_at c past) in
       let under = under_pw patch lock.ask.mode lock.ask.policy change mode k.2 in
       next_low under.0 patch change (next_is under.0 patch change (patch_rises c past lock.resource) under.2)
-          (all_low head c past g.1 lock.resource)
+      (all_low head c past g.1 lock.resource)
 
   module _ (past : List Line) (g : Grown head past) (c t : ℕ) where
     get_in : (slot : ℕ) (running : Running) (o : Op) → call_at c slot past ≡ Some running → GetAskOk past c t running o → InFile o
@@ -172,7 +172,7 @@ in_story head [] g t = record { queues = λ who q i. absurd i; flew = λ who f i
 in_story head (l ∷ past) g t =
     cond_both (concerns t l.at.node l.entry) (l ∷ only t past) (only t past) InStory
     (λ own. in_line head (only t past) l.at.stamp l.at.node l.entry (g.0.of t own) (ask_in head past l.at l.at.node l.entry g.1 g.0.ok)
-        (in_story head past g.1 t))
+    (in_story head past g.1 t))
     (λ other. in_story head past g.1 t)
 
 -- each request that flew lies in a file

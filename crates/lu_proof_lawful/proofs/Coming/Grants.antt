@@ -23,13 +23,13 @@ module _ (head : Head) (past : List Line) (h : HoldsAt head past) where
   awaited_new c cookie f r heard tells more x i e =
       let done = h.done.answered (life_of c past) f r heard in
       let told : tells_wait done.0.op done.0.reply.answer cookie.0 ≡ true =
-          subst (λ (a : Answer). tells_wait done.0.op a cookie.0 ≡ true) (ap (λ (k : ReplyTo). k.answer) done.2)
-              (subst (λ (o : Op). tells_wait o r.answer cookie.0 ≡ true) done.5 tells) in
+      subst (λ (a : Answer). tells_wait done.0.op a cookie.0 ≡ true) (ap (λ (k : ReplyTo). k.answer) done.2)
+      (subst (λ (o : Op). tells_wait o r.answer cookie.0 ≡ true) done.5 tells) in
       let waits = h.locks.awaits (life_of c past) cookie.0 more in
       let same : done.0 ≡ waits.deed = h.locks.named done.0 waits.deed cookie.0 done.1 waits.acted
-          (inr (waits_bring done.0.op done.0.reply.answer cookie.0 told)) (inr waits.brings) in
+      (inr (waits_bring done.0.op done.0.reply.answer cookie.0 told)) (inr waits.brings) in
       let yes : hopes_of (life_of c past) cookie.0 past ≡ true = waits.hopes
-          (subst (λ (d : Deed). tells_wait d.op d.reply.answer cookie.0 ≡ true) same told) in
+      (subst (λ (d : Deed). tells_wait d.op d.reply.answer cookie.0 ≡ true) same told) in
       let no : hopes_of (life_of c past) cookie.0 past ≡ false = subst (λ (k : Cookie). hopes_of (life_of c past) k.0 past ≡ false) e
-          (h.locks.held c x i).came in
+      (h.locks.held c x i).came in
       absurd (cc)

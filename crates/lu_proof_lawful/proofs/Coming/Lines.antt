@@ -29,10 +29,10 @@ module _ (head : Head) (past : List Line) (stamp : Stamp) where
   brings t c (message.Reply reply) g =
       let story = only t (new (Target t) (Send (Client c) (message.Reply reply))) in
       let sent = was_only t (new (Target t) (Send (Client c) (message.Reply reply))) (Target t) (Client c) (message.Reply reply) (self t)
-          (inl (refl, refl, refl)) in
+      (inl (refl, refl, refl)) in
       let meant : RepliesTo head.osts story c reply =
-          ((holds head (new (Target t) (Send (Client c) (message.Reply reply))) g).at t).done.sent (Target t) (Client c)
-          (message.Reply reply) sent in
+      ((holds head (new (Target t) (Send (Client c) (message.Reply reply))) g).at t).done.sent (Target t) (Client c)
+      (message.Reply reply) sent in
       subst IsShort (sym (ap (λ (k : ReplyTo). k.answer) meant.is))
       (answers_short head (new (Target t) (Send (Client c) (message.Reply reply))) g t meant.deed meant.acted)
   brings t c (message.Grant notice) g =

@@ -116,7 +116,7 @@ life_turn head past stamp c (e ∷ es) g later =
         by : (x : Entry) → Took (line at x ∷ past) at from m → (n : ℕ) × (x ≡ Take n from m)
         by (Take n sender k) took = ⊎_elim
             (λ (q : (at ≡ at) × (sender ≡ from) × (k ≡ m)).
-                (n, ap (λ (v : Node). Take n v k) q.1 ∙ ap (λ (v : Message). Take n from v) q.2))
+            (n, ap (λ (v : Node). Take n v k) q.1 ∙ ap (λ (v : Message). Take n from v) q.2))
             (λ (q : Took past at from m). absurd (none_took head past at from m g later q))
             took
         by x took = absurd (none_took head past at from m g later took)
@@ -142,14 +142,14 @@ module _ (head : table.Head) where
       own d node same =
           let at : t.at ≡ turn t.at.stamp (Client d) = ap (λ (n : Node). turn t.at.stamp n) node in
           let more = life_turn (covered_head head) (lines_of turns) t.at.stamp d t.entries
-              (subst (λ (a : At). Grown (covered_head head) (with_turn a t.entries (lines_of turns))) at
-              (grown head (t ∷ turns) run covered))
-              (subst (λ (a : At). Later (lines_of turns) a) at (run_later head turns t.at run.2 run.0)) in
+          (subst (λ (a : At). Grown (covered_head head) (with_turn a t.entries (lines_of turns))) at
+          (grown head (t ∷ turns) run covered))
+          (subst (λ (a : At). Later (lines_of turns) a) at (run_later head turns t.at run.2 run.0)) in
           let here : (life_at d (with_turn t.at t.entries (lines_of turns))).life ≤ (life_at d (lines_of turns)).life + 1 =
-              subst (λ (a : At). (life_at d (with_turn a t.entries (lines_of turns))).life ≤ (life_at d (lines_of turns)).life + 1)
-              (sym at) more in
+          subst (λ (a : At). (life_at d (with_turn a t.entries (lines_of turns))).life ≤ (life_at d (lines_of turns)).life + 1)
+          (sym at) more in
           let mine : (life_at c (lines_of (t ∷ turns))).life ≤ (life_at c (lines_of turns)).life + 1 =
-              subst (λ (k : ℕ). (life_at k (lines_of (t ∷ turns))).life ≤ (life_at k (lines_of turns)).life + 1) (sym same) here in
+          subst (λ (k : ℕ). (life_at k (lines_of (t ∷ turns))).life ≤ (life_at k (lines_of turns)).life + 1) (sym same) here in
           omega (arith, before, mine)
 
       by : (node : Node) → t.at.node ≡ node → (b : Bool) → is_client c t.at.node ≡ b

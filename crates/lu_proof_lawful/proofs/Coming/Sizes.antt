@@ -99,7 +99,7 @@ module _ (head : Head) (past : List Line) (stamp : Stamp) (t : ℕ) (h : HoldsAt
       let v : TargetState = recovering_of head.osts head.clients past in
       let w : Window = window_of head.osts head.clients past in
       let g = again_of v at v.disk.contents (kept_of (kept_numbers w) (replays_of past)) e
-          (subst (λ (x : Outcome). In e x.kept) ok.is i) in
+      (subst (λ (x : Outcome). In e x.kept) ok.is i) in
       let r : Replayed = g.0 in
       let among = in_filter (λ (s : Replayed). has_number s.number (kept_numbers w)) r (replays_of past) g.2 in
       let d = replayed_is_done head past h ok.recovers r among.0 in
@@ -116,13 +116,13 @@ module _ (head : Head) (past : List Line) (stamp : Stamp) (t : ℕ) (h : HoldsAt
   objects_line (Target u) (Close o) ok new disk all =
       subst (λ (x : Disk). AllLow x.contents.objects) (sym (closing head past (turn stamp (Target u)) o ok h).disk)
       (stored_low head.osts (batch_of o.kept (lives_in o.gone) o.joins) (disk_of head.osts head.clients past)
-          (close_in (turn stamp (Target u)) o ok) disk)
+      (close_in (turn stamp (Target u)) o ok) disk)
   objects_line node e ok new disk all = all
 
   batch_in : (at : At) (to : ℕ) (batch : Batch) → CommitOk head past at to batch → ClosingIn head past → EveryIn batch.transactions
   batch_in at to batch ok more = ⊎_elim
       (λ (e : batch ≡ batch_of
-          (filter (λ (d : Deed). not (nat_lt to d.reply.txn.0)) (server_of head.osts past).log) batch.removed batch.added).
+      (filter (λ (d : Deed). not (nat_lt to d.reply.txn.0)) (server_of head.osts past).log) batch.removed batch.added).
       subst (λ (b : Batch). EveryIn b.transactions) (sym e)
       (deeds_in (filter (λ (d : Deed). not (nat_lt to d.reply.txn.0)) (server_of head.osts past).log)
       (λ d i. old d (h.history.log d (in_filter (λ (x : Deed). not (nat_lt to x.reply.txn.0)) d (server_of head.osts past).log i).0).0)))
@@ -224,7 +224,7 @@ module _ (head : Head) (past : List Line) (stamp : Stamp) (t : ℕ) (h : HoldsAt
           → Was (line (turn stamp node) e ∷ past) from to (message.Grant n) → n.size ≤ 2 ^ 40
       by node (Send other m) ok w = ⊎_elim
           (λ (p : (node ≡ from) × (other ≡ to) × (m ≡ message.Grant n)). sends node other
-              (subst (λ (x : Message). EntryOf head past (turn stamp node) node (Send other x)) p.2 ok))
+          (subst (λ (x : Message). EntryOf head past (turn stamp node) node (Send other x)) p.2 ok))
           (λ (o : Was past from to (message.Grant n)). before from to n o)
           w
       by node e ok w = before from to n w
@@ -268,8 +268,14 @@ story_line head past l g t own before =
     ok = g.0.of t own
 
 in_story : (head : Head) (past : List Line) → Grown head past → (t : ℕ) → Story head t (only t past)
-in_story head [] g t = record { objects = tt; disk = tt; closing = λ to batch more e. absurd
-    (cc); told = λ high d a. absurd a; given = λ from to n w. absurd w }
+in_story head [] g t = record {
+  objects = tt;
+  disk = tt;
+  closing = λ to batch more e. absurd
+      (cc);
+  told = λ high d a. absurd a;
+  given = λ from to n w. absurd w;
+}
 in_story head (l ∷ past) g t =
     cond_both (concerns t l.at.node l.entry) (l ∷ only t past) (only t past) (Story head t)
     (λ own. story_line head past l g t own (in_story head past g.1 t)) (λ other. in_story head past g.1 t)
@@ -296,7 +302,7 @@ answers_short head past g t d a = by (done_kind head past t d g a)
     by (inr object) = (in_story head past g t).told object.0 d a
     by (inl names) = ⊎_elim
         (λ (simple : IsSimple d.op). none_short d.reply.answer
-            (no_size d.op d.reply.answer simple (acted_fits head past d g (acted_whole t past d a))))
+        (no_size d.op d.reply.answer simple (acted_fits head past d g (acted_whole t past d a))))
         (λ (object : (0 < t) × (IsLock d.op ⊎ IsBytes d.op)). absurd
-            (let zero = names.0 in let high = object.0 in omega (arith, zero, high)))
+        (let zero = names.0 in let high = object.0 in omega (arith, zero, high)))
         (asked_parts t d.op (inl names))

@@ -195,8 +195,8 @@ abbrev pub Follows : Head → List Line → List PrintedLine → Type 0
 Follows head past later = (t : ℕ) (who : Who) (at : At) → IsTurnOf (only t past) at → Expected head (only t past) who
     → any_later (is_back_of who) at later ≡ true
 
-pub follows_none : (head : Head) (past : List Line) → Noted head past → Follows head past []
-follows_none head past n t who at turned x = absurd (by (only t past) x (n.marked t) (n.told t who))
+pub follows_none : (head : Head) (past : List Line) (later : List PrintedLine) → Noted head past → Follows head past later
+follows_none head past later n t who at turned x = absurd (by (only t past) x (n.marked t) (n.told t who))
   where
     by : (p : List Line) → Expected head p who → due head.osts head.clients p ≡ None → (BackNow head.osts head.clients p who → ⊥) → ⊥
     by [] x d b = x

@@ -104,11 +104,11 @@ Due (l ∷ past) later = elim l.entry [
       ↦ Unit {0}
 ]
 
-pub nothing_due : (past : List Line) → Settled past → Due past []
-nothing_due [] s = tt
-nothing_due (l ∷ past) s = by l.entry s
+pub nothing_due : (past : List Line) (later : List PrintedLine) → Settled past → Due past later
+nothing_due [] later s = tt
+nothing_due (l ∷ past) later s = by l.entry s
   where
-    by : (e : Entry) → Settled (line l.at e ∷ past) → Due (line l.at e ∷ past) []
+    by : (e : Entry) → Settled (line l.at e ∷ past) → Due (line l.at e ∷ past) later
     by (Begin slot running) s = λ bad. absurd (subst (λ (v : Stage). BeginQuiet v running.call) bad s)
     by _ s = tt
 

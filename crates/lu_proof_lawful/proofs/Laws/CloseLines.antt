@@ -151,8 +151,8 @@ abbrev pub RestStands : Head → List Line → List PrintedLine → Type 0
 RestStands head past later = (t : ℕ) (at : At) → at.node ≡ Target t → IsTurnOf (only t past) at
     → StandFirst (closing_of head.clients (only t past)) (turned at later)
 
-pub rest_none : (head : Head) (past : List Line) → Noted head past → RestStands head past []
-rest_none head past n t at node s = subst (λ (es : List Entry). StandFirst es []) (sym (n.shown t)) tt
+pub rest_none : (head : Head) (past : List Line) (later : List PrintedLine) → Noted head past → RestStands head past later
+rest_none head past later n t at node s = subst (λ (es : List Entry). StandFirst es (turned at later)) (sym (n.shown t)) tt
 
 prints : (m : ℕ) (x : Entry) → IsShow x → (k : PrintedEntry) × (printed_entry m x ≡ Some k)
 prints m (Commit to batch) i = (trace.Commit (record { 0 = to }), refl)

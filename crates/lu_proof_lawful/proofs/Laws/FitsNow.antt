@@ -66,14 +66,20 @@ none_lost head past g t n not = by (is_lost (printed past) t n) refl
     by true e = let k = lost_made head t past g n e in absurd (not (subst (WasMade t past) k.3 (listed head t past k.0 g k.1 k.2).made))
     by false e = refl
 
--- who is gone in a whole trace, and what its closes lost, fit it, once each last close has shown all
-pub all_fit : (head : Head) (past : List Line) → Grown head past → ((t : ℕ) → closing_of head.clients (only t past) ≡ [])
-    → Fits head.osts (is_gone (printed past)) (is_lost (printed past)) past
-all_fit head past g quiet =
+-- who is gone in a whole trace, and what its closes lost, fit it, once each last close has shown all; however these numbers are told
+pub fit_as : (head : Head) (past : List Line) (lost : ℕ → ℕ → Bool) → Grown head past
+    → ((t n : ℕ) → lost t n ≡ is_lost (printed past) t n) → ((t : ℕ) → closing_of head.clients (only t past) ≡ [])
+    → Fits head.osts (is_gone (printed past)) lost past
+fit_as head past lost g same quiet =
     let gone = gone_out head past g in
-    fits head (is_gone (printed past)) (is_lost (printed past)) past g (λ t. lost_is head t past g) (none_lost head past g)
+    fits head (is_gone (printed past)) lost past g (λ t n m. same t n ∙ lost_is head t past g n m)
+    (λ t n not. same t n ∙ none_lost head past g t n not)
     (λ t n. made_or t past n) gone
     (λ who stays t e. stays_in (is_gone (printed past)) t who stays head past g gone (quiet t) e)
+
+pub all_fit : (head : Head) (past : List Line) → Grown head past → ((t : ℕ) → closing_of head.clients (only t past) ≡ [])
+    → Fits head.osts (is_gone (printed past)) (is_lost (printed past)) past
+all_fit head past g quiet = fit_as head past (is_lost (printed past)) g (λ t n. refl) quiet
 
 -- ---- when closes have shown all
 

@@ -25,7 +25,7 @@ use Rattle.lu_spec_laws.specs.Words.Pasts.{Past}
 use Rattle.lu_spec_laws.specs.Words.Lives.{who_is, is_gone}
 use Rattle.lu_spec_laws.specs.Words.Calls.{Begun}
 use Rattle.lu_spec_laws.specs.Words.Glimpses.{to_turn_end, cuts, machine_cut, has_size, peeked}
-use Rattle.lu_spec_laws.specs.Holds.{Holds}
+use Rattle.lu_spec_laws.specs.Holds.{Holds, HoldsBefore}
 use Rattle.lu_spec_laws.specs.Laws.Glimpse as laws
 use Rattle.lu_spec_laws.specs.Laws.Glimpse.{AreSizes, machines, SizesOn, GlimpseAt, GlimpseOf, Glimpse}
 use Rattle.lu_proof_lawful.proofs.Preconditions.Guards.{TellsOk, SizesToldOk, ReadToldOk}
@@ -152,10 +152,12 @@ module _ (head : Head) (out : Who → Bool) where
       by (Target u) (Told slot named given work) ok y old = absurd ok.ok
       by _ _ ok y old = tt
 
-  -- whatever lives are out, once all are that are gone
-  glimpse_of : (past : List Line) → Run head past → ((who : Who) → is_gone (printed past) who ≡ true → out who ≡ true)
-      → Holds (GlimpseOf out head.osts) (printed past)
-  glimpse_of past y gone = holds_before head (GlimpseOf out head.osts) Known earlier each past [] y.grown (y, all_sized head past y, gone)
+  -- whatever lives are out, once all are that are gone, and whatever lines come later
+  pub glimpse_before : (past : List Line) (later : List PrintedLine) → Run head past
+      → ((who : Who) → is_gone (printed past) who ≡ true → out who ≡ true)
+      → HoldsBefore (GlimpseOf out head.osts) later (printed past)
+  glimpse_before past later y gone =
+      holds_before head (GlimpseOf out head.osts) Known earlier each past later y.grown (y, all_sized head past y, gone)
 
 pub glimpse_law : (head : Head) (past : List Line) → Run head past → Holds (Glimpse head.osts (printed past)) (printed past)
-glimpse_law head past y = glimpse_of head (is_gone (printed past)) past y (λ who e. e)
+glimpse_law head past y = glimpse_before head (is_gone (printed past)) past [] y (λ who e. e)

@@ -36,7 +36,7 @@ use Rattle.lu_spec_laws.specs.Words.Lives.{who_is}
 use Rattle.lu_spec_laws.specs.Words.Requests.{asked}
 use Rattle.lu_spec_laws.specs.Words.Calls.{Begun, open_call}
 use Rattle.lu_spec_laws.specs.Words.Histories.{none, names_act, is_answer, is_counted, machine_of, answer_to}
-use Rattle.lu_spec_laws.specs.Holds.{Holds}
+use Rattle.lu_spec_laws.specs.Holds.{Holds, HoldsBefore}
 use Rattle.lu_spec_laws.specs.Laws.History.{is_accepted, right_answer, ToldOn, ToldAt, HistoryOf}
 use Rattle.lu_spec_laws.specs.Laws.History as law
 use Rattle.lu_proof_lawful.specs.Fits.{AllStand, SeenStand, Fits}
@@ -266,6 +266,12 @@ module _ (head : Head) (out : Who → Bool) (lost : ℕ → ℕ → Bool) where
       by (Target (suc u)) (Made d) k run plain s = piece_law head past l.at.stamp u d run
       by _ _ k run plain s = tt
 
+  -- whatever lines come later
+  pub history_before : (past : List Line) (later : List PrintedLine) → Fits head.osts out lost past → OfRun head past
+      → HoldsBefore (HistoryOf out lost head.osts) later (printed past)
+  history_before past later f k =
+      holds_before head (HistoryOf out lost head.osts) Known known_before history_at past later k.grown (k, f)
+
   pub history_law : (past : List Line) → Fits head.osts out lost past → OfRun head past
       → Holds (HistoryOf out lost head.osts) (printed past)
-  history_law past f k = holds_before head (HistoryOf out lost head.osts) Known known_before history_at past [] k.grown (k, f)
+  history_law past f k = history_before past [] f k

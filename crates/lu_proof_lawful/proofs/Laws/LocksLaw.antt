@@ -37,7 +37,7 @@ use Rattle.lu_spec_laws.specs.Words.Queues.{is_on}
 use Rattle.lu_spec_laws.specs.Words.Standing.{contents}
 use Rattle.lu_spec_laws.specs.Words.Seen.{writes_of}
 use Rattle.lu_spec_laws.specs.Words.Held.{Held, given, held, with_lock, is_held_by, all_but, opposes, is_opposed}
-use Rattle.lu_spec_laws.specs.Holds.{Holds}
+use Rattle.lu_spec_laws.specs.Holds.{Holds, HoldsBefore}
 use Rattle.lu_spec_laws.specs.Laws.Locks.{HoldsGiven, HoldBy, exclusive, AreUnguarded, TxnBy, LocksAt, Locks}
 use Rattle.lu_spec_laws.proofs.Tests.{clash, refuted}
 use Rattle.lu_proof_lawful.proofs.Preconditions.Guards.{In}
@@ -294,6 +294,11 @@ locks_at head past l later a g = by l.at.node l.entry a
     by (Target (suc t)) (Txn d) k = tt
     by _ _ k = tt
 
+-- whatever lines come later
+pub locks_before : (head : Head) (past : List Line) (later : List PrintedLine) → Grown head past
+    → HoldsBefore (Locks head.osts) later (printed past)
+locks_before head past later g = holds_before head (Locks head.osts) Nothing (λ l past k. k)
+    (λ past l later a g k. locks_at head past l later a g) past later g tt
+
 pub locks_law : (head : Head) (past : List Line) → Grown head past → Holds (Locks head.osts) (printed past)
-locks_law head past g = holds_before head (Locks head.osts) Nothing (λ l past k. k) (λ past l later a g k. locks_at head past l later a g)
-    past [] g tt
+locks_law head past g = locks_before head past [] g

@@ -10,7 +10,7 @@ use Rattle.lu_spec_entries.specs.Sent.{count_sent}
 use Rattle.lu_spec_entries.specs.Printed.{printed_entry, printed}
 use Rattle.lu_proof_lawful.specs.Covered.Heads.{Head}
 use Rattle.lu_spec_laws.specs.Laws.Messages.{Follows, Lives, Passes, MessagesAt, Messages}
-use Rattle.lu_spec_laws.specs.Holds.{Holds}
+use Rattle.lu_spec_laws.specs.Holds.{Holds, HoldsBefore}
 use Rattle.lu_proof_lawful.proofs.Preconditions.Guards.{Steps}
 use Rattle.lu_proof_lawful.proofs.Preconditions.Grown.{LivesAt, Allowed, Grown}
 use Rattle.lu_proof_lawful.proofs.Invariants.Groups.{turn}
@@ -21,7 +21,7 @@ use Rattle.lu_proof_lawful.proofs.Laws.Lines.{OfPrinted, Keeps, holds_before, No
 -- ---- turns
 
 -- the newest printed line is of this turn or an earlier one
-follows : (head : Head) (past : List Line) (at : At) → Grown head past → Steps past at → Follows (printed past) at
+pub follows : (head : Head) (past : List Line) (at : At) → Grown head past → Steps past at → Follows (printed past) at
 follows head [] at g s = tt
 follows head (l ∷ past) at g s = by (printed_entry (count_sent past + 1) l.entry)
     (follows head past at g.1 (steps_trans past l.at at g.0.steps s))
@@ -57,6 +57,11 @@ messages_at head past l later a g = at (printed_entry (count_sent past + 1) l.en
     at None p = tt
     at (Some e) p = record { order = follows head past l.at g a.steps; living = lives_is head past l.at.node a.lives; passes = p }
 
+-- whatever lines come later
+pub messages_before : (head : Head) (past : List Line) (later : List PrintedLine) → Grown head past
+    → HoldsBefore Messages later (printed past)
+messages_before head past later g = holds_before head Messages Nothing (λ l past k. k)
+    (λ past l later a g k. messages_at head past l later a g) past later g tt
+
 pub messages_law : (head : Head) (past : List Line) → Grown head past → Holds Messages (printed past)
-messages_law head past g = holds_before head Messages Nothing (λ l past k. k) (λ past l later a g k. messages_at head past l later a g) past
-    [] g tt
+messages_law head past g = messages_before head past [] g

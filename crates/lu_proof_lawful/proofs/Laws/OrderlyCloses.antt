@@ -405,7 +405,7 @@ pub closes : (head : Head) (past : List Line) → Grown head past → Noted head
 closes head past g n =
     holds_due head Closes (λ past. Unit {0}) (λ l past k. k) (Left head) (λ past l later g f. left_then head past l later g f)
     (λ past l later a g k f. closes_at head past l later a g f) past [] g tt
-    (rest_none head past n, start past, left_none head past n)
+    (rest_none head past [] n, start past, left_none head past n)
   where
     start : (p : List Line) → Follows p []
     start [] = tt

@@ -21,6 +21,7 @@ use Rattle.lu_spec_entries.specs.Words.{Line, line}
 use Rattle.lu_spec_entries.specs.Concerns.{only}
 use Rattle.lu_spec_entries.specs.Sent.{count_sent}
 use Rattle.lu_spec_entries.specs.Printed.{printed_entry, printed}
+use Rattle.lu_proof_lawful.specs.Covered.TargetCloses.{closing_of}
 use Rattle.lu_proof_lawful.specs.Covered.TargetStates.{server_of, closed_of}
 use Rattle.lu_proof_lawful.specs.Covered.Heads.{Head}
 use Rattle.lu_spec_laws.specs.Words.Sends.{Sending}
@@ -30,7 +31,7 @@ use Rattle.lu_spec_laws.specs.Words.Handed.{is_back}
 use Rattle.lu_spec_laws.specs.Holds.{HoldsBefore, Holds}
 use Rattle.lu_spec_laws.specs.Laws.Recovery.{BringsBack, TakenAt, CommitAt, RecoveryAt, RecoveryOf, Recovery}
 use Rattle.lu_proof_lawful.proofs.Preconditions.Guards.{In, EntryOk}
-use Rattle.lu_proof_lawful.proofs.Preconditions.StoryGuards.{CommitOk, IsServing, EvictOk, LeavesOk, JoinedOk, ComesOk}
+use Rattle.lu_proof_lawful.proofs.Preconditions.StoryGuards.{CommitOk, Due, IsServing, EvictOk, LeavesOk, JoinedOk, ComesOk}
 use Rattle.lu_proof_lawful.proofs.Preconditions.Grown.{Noted, Allowed, Grown}
 use Rattle.lu_proof_lawful.proofs.Preconditions.Only.{grown_of}
 use Rattle.lu_proof_lawful.proofs.Preconditions.Lists.{self}
@@ -110,78 +111,103 @@ taken_law head past stamp t n from m later g one f = tt
 
 -- ---- the law
 
+-- a line that shows what a close of its turn decided: no later line of the turn says that the disk fails
+abbrev pub UnbrokenAt : Head → List Line → At → List PrintedLine → Type 0
+UnbrokenAt head past at later = (t : ℕ) → at.node ≡ Target t → (closing_of head.clients (only t past) ≡ [] → ⊥) → Sound at later
+
+-- each such line
+abbrev pub Unbroken : Head → List Line → List PrintedLine → Type 0
+Unbroken head [] later = Unit {0}
+Unbroken head (l ∷ past) later = UnbrokenAt head past l.at later × Unbroken head past later
+
+shows_some : (head : Head) (past : List Line) (at : At) (e : Entry) → Due head past at e → closing_of head.clients past ≡ [] → ⊥
+shows_some head past at e due none = let other : e ∷ due.0 ≡ [] = sym due.1 ∙ none in cc
+
 -- of at most the run's clients; what a close shows stands in the rest of its turn, and no later line says that the disk fails
 recovery_at : (clients : ℕ) (head : Head) (past : List Line) (l : Line) (later : List PrintedLine) → clients ≤ head.clients
     → Allowed head past l.at l.entry → Grown head past → AllAsked (l ∷ past) → Follows head (l ∷ past) later
-    → RestStands head (l ∷ past) later → ((at : At) → Sound at later)
+    → RestStands head (l ∷ past) later → UnbrokenAt head past l.at later
     → Keeps (RecoveryOf clients head.osts) past l later
-recovery_at clients head past l later few k g a f rest sound = by l.at.node l.entry k a f rest
+recovery_at clients head past l later few k g a f rest sound = by l.at.node l.entry k a f rest sound
   where
+    unbroken : (t : ℕ) (e : Entry) → UnbrokenAt head past (turn l.at.stamp (Target t)) later
+        → Due head (only t past) (turn l.at.stamp (Target t)) e → Sound (turn l.at.stamp (Target t)) later
+    unbroken t e s due = s t refl (shows_some head (only t past) (turn l.at.stamp (Target t)) e due)
+
     by : (node : Node) (e : Entry) → Allowed head past (turn l.at.stamp node) e → AllAsked (line (turn l.at.stamp node) e ∷ past)
         → Follows head (line (turn l.at.stamp node) e ∷ past) later → RestStands head (line (turn l.at.stamp node) e ∷ past) later
+        → UnbrokenAt head past (turn l.at.stamp node) later
         → OfPrinted (λ (e : PrintedEntry). RecoveryAt clients head.osts (printed past) (record { at = turn l.at.stamp node; entry = e })
         later e) (printed_entry (count_sent past + 1) e)
-    by (Client c) (Send to m) k a f rest = tt
-    by (Target t) (Send (Client c) (message.Reply r)) k a f rest =
+    by (Client c) (Send to m) k a f rest s = tt
+    by (Target t) (Send (Client c) (message.Reply r)) k a f rest s =
         reply_law head past l.at.stamp t c r k g (asked_before (line (turn l.at.stamp (Target t)) (Send (Client c) (message.Reply r))) past
         a)
-    by (Target t) (Send (Client c) (message.Grant n)) k a f rest =
+    by (Target t) (Send (Client c) (message.Grant n)) k a f rest s =
         notice_law head past l.at.stamp t c n k g (asked_before (line (turn l.at.stamp (Target t)) (Send (Client c) (message.Grant n))) past
         a)
-    by (Target t) (Send (Client c) (message.Ask who boot cookie for_who xid)) k a f rest = tt
-    by (Target t) (Send (Client c) (message.Block who boot cookie)) k a f rest = tt
-    by (Target t) (Send (Client c) (message.Ready who boot committed)) k a f rest = tt
-    by (Target t) (Send (Client c) (message.Up boot)) k a f rest = tt
-    by (Target t) (Send (Client c) (message.Evicted who boot)) k a f rest = tt
-    by (Target t) (Send (Client c) m) k a f rest = absurd k.ok
-    by (Target t) (Send (Target u) m) k a f rest = absurd k.ok
-    by (Target t) (Take n from m) k a f rest =
+    by (Target t) (Send (Client c) (message.Ask who boot cookie for_who xid)) k a f rest s = tt
+    by (Target t) (Send (Client c) (message.Block who boot cookie)) k a f rest s = tt
+    by (Target t) (Send (Client c) (message.Ready who boot committed)) k a f rest s = tt
+    by (Target t) (Send (Client c) (message.Up boot)) k a f rest s = tt
+    by (Target t) (Send (Client c) (message.Evicted who boot)) k a f rest s = tt
+    by (Target t) (Send (Client c) m) k a f rest s = absurd k.ok
+    by (Target t) (Send (Target u) m) k a f rest s = absurd k.ok
+    by (Target t) (Take n from m) k a f rest s =
         subst (λ (o : Option Message). TakenAt t (printed past) (record { at = turn l.at.stamp (Target t); entry = entry.Take n }) later o)
         (sym (ap (λ (o : Option Sending). elim o [ None ↦ None | Some s ↦ Some s.message ])
         (sending_is past n from (Target t) m k.ok.sent)))
         (taken_law head past l.at.stamp t n from m later (k, g)
         (one_told head t (line (turn l.at.stamp (Target t)) (Take n from m) ∷ past) (k, g)) f)
-    by (Client c) (Made d) k a f rest = absurd k.ok
-    by (Target t) (Made d) k a f rest = txn_law head past l.at.stamp t d k g a.1 (a.0 t refl)
-    by (Target t) (Commit to batch) k a f rest = commit_law head past (turn l.at.stamp (Target t)) t to batch g (k.of t (self t))
-    by (Target t) (Back who) k a f rest = let ok = k.of t (self t)
+    by (Client c) (Made d) k a f rest s = absurd k.ok
+    by (Target t) (Made d) k a f rest s = txn_law head past l.at.stamp t d k g a.1 (a.0 t refl)
+    by (Target t) (Commit to batch) k a f rest s = commit_law head past (turn l.at.stamp (Target t)) t to batch g (k.of t (self t))
+    by (Target t) (Back who) k a f rest s = let ok = k.of t (self t)
         in back_at head past l.at.stamp t who g (λ p q. one_told head t p q) ok.0 ok.1
-    by (Target t) (Close outcome) k a f rest = close_at clients head past l.at.stamp t outcome later k g few rest
-    by (Target t) (Kept n) k a f rest = kept_law head past l.at.stamp t n later k.steps g (k.of t (self t))
-        (sound (turn l.at.stamp (Target t)))
-    by (Target t) (Restore lock) k a f rest = restored_law head past l.at.stamp t lock later k.steps g (k.of t (self t)).due
-        (sound (turn l.at.stamp (Target t)))
-    by (Target t) (Evict who cause) k a f rest = ⊎_elim
+    by (Target t) (Close outcome) k a f rest s = close_at clients head past l.at.stamp t outcome later k g few rest
+    by (Target t) (Kept n) k a f rest s = kept_law head past l.at.stamp t n later k.steps g (k.of t (self t))
+        (unbroken t (Kept n) s (k.of t (self t)))
+    by (Target t) (Restore lock) k a f rest s = restored_law head past l.at.stamp t lock later k.steps g (k.of t (self t)).due
+        (unbroken t (Restore lock) s (k.of t (self t)).due)
+    by (Target t) (Evict who cause) k a f rest s = ⊎_elim
         (λ (ok : EvictOk head (only t past) (turn l.at.stamp (Target t)) who cause). evict_law head past (turn l.at.stamp (Target t)) later
         t who cause g refl (k.shows t (self t)) ok)
         (λ (ok : LeavesOk head (only t past) (turn l.at.stamp (Target t)) who cause). leaves_law head past l.at.stamp t who cause later
-        k.steps g ok.due (sound (turn l.at.stamp (Target t))))
+        k.steps g ok.due (unbroken t (Evict who cause) s ok.due))
         (k.of t (self t))
-    by (Target t) (Joined who) k a f rest = never_back head past (record { at = turn l.at.stamp (Target t); entry = entry.Joined who })
+    by (Target t) (Joined who) k a f rest s = never_back head past (record { at = turn l.at.stamp (Target t); entry = entry.Joined who })
         later t who g (⊎_elim (λ (j : JoinedOk head (only t past) (turn l.at.stamp (Target t)) t who). j.serves)
         (λ (j : ComesOk head (only t past) (turn l.at.stamp (Target t)) t who). j.serves) (k.of t (self t)))
-    by _ _ k a f rest = tt
+    by _ _ k a f rest s = tt
 
 -- no line of a grown past says that the disk fails
 sound_before : (head : Head) (past : List Line) (l : Line) (later : List PrintedLine) → Allowed head past l.at l.entry
-    → ((at : At) → Sound at later) → (at : At) → Sound at (after_line l (printed_entry (count_sent past + 1) l.entry) later)
-sound_before head past l later k s at = by l.at.node l.entry k.ok
+    → (at : At) → Sound at later → Sound at (after_line l (printed_entry (count_sent past + 1) l.entry) later)
+sound_before head past l later k at s = by l.at.node l.entry k.ok
   where
     by : (node : Node) (e : Entry) → EntryOk past l.at node e → Sound at
         (after_line (line l.at e) (printed_entry (count_sent past + 1) e) later)
     by (Client c) Fail ok = absurd ok
     by (Target t) Fail ok = absurd ok
-    by node e ok = s at
+    by node e ok = s
+
+unbroken_before : (head : Head) (past : List Line) (later more : List PrintedLine) → ((at : At) → Sound at later → Sound at more)
+    → Unbroken head past later → Unbroken head past more
+unbroken_before head [] later more sound u = tt
+unbroken_before head (l ∷ past) later more sound u =
+    (λ t own some. sound l.at (u.0 t own some), unbroken_before head past later more sound u.1)
 
 -- what follows each line stands among the later ones
-recovery_before : (clients : ℕ) (head : Head) (past : List Line) (later : List PrintedLine) → clients ≤ head.clients → Grown head past
-    → AllAsked past → Follows head past later → RestStands head past later → ((at : At) → Sound at later)
+pub recovery_before : (clients : ℕ) (head : Head) (past : List Line) (later : List PrintedLine) → clients ≤ head.clients
+    → Grown head past → AllAsked past → Follows head past later → RestStands head past later → Unbroken head past later
     → HoldsBefore (RecoveryOf clients head.osts) later (printed past)
 recovery_before clients head [] later few g a f rest s = tt
 recovery_before clients head (l ∷ past) later few g a f rest s =
-    by (printed_entry (count_sent past + 1) l.entry) (recovery_at clients head past l later few g.0 g.1 a f rest s)
+    by (printed_entry (count_sent past + 1) l.entry) (recovery_at clients head past l later few g.0 g.1 a f rest s.0)
     (recovery_before clients head past (after_line l (printed_entry (count_sent past + 1) l.entry) later) few g.1 (asked_before l past a)
-    (follows_before head l past later g.0 f) (rest_before head l past later g.0 rest) (sound_before head past l later g.0 s))
+    (follows_before head l past later g.0 f) (rest_before head l past later g.0 rest)
+    (unbroken_before head past later (after_line l (printed_entry (count_sent past + 1) l.entry) later)
+    (sound_before head past l later g.0) s.1))
   where
     by : (o : Option PrintedEntry) → OfPrinted (λ e. RecoveryOf clients head.osts (printed past) (record { at = l.at; entry = e }) later) o
         → HoldsBefore (RecoveryOf clients head.osts) (after_line l o later) (printed past)
@@ -190,8 +216,12 @@ recovery_before clients head (l ∷ past) later few g a f rest s =
     by None p h = h
     by (Some e) p h = (p, h)
 
+unbroken_whole : (head : Head) (past : List Line) → Unbroken head past []
+unbroken_whole head [] = tt
+unbroken_whole head (l ∷ past) = (λ t own some. refl, unbroken_whole head past)
+
 -- where nothing is due at the end
 pub recovery_law : (head : Head) (past : List Line) → Grown head past → Noted head past → AllAsked past
     → Holds (Recovery head.osts (printed past)) (printed past)
 recovery_law head past g n a = recovery_before (clients (printed past)) head past [] (clients_low head past g) g a
-    (follows_none head past n) (rest_none head past n) (λ at. refl)
+    (follows_none head past [] n) (rest_none head past [] n) (unbroken_whole head past)

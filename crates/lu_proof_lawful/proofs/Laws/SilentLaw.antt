@@ -44,7 +44,7 @@ use Rattle.lu_spec_client.specs.Wants.{wants_of}
 use Rattle.lu_proof_lawful.specs.Covered.Calls.{call_at, operation_of, begun_file, file_at, file_for, life_at}
 use Rattle.lu_proof_lawful.specs.Covered.Heads.{Head}
 use Rattle.lu_proof_lawful.specs.Covered.Known.{notes_at}
-use Rattle.lu_spec_laws.specs.Holds.{Holds}
+use Rattle.lu_spec_laws.specs.Holds.{Holds, HoldsBefore}
 use Rattle.lu_spec_laws.specs.Laws.Silent.{is_told_silently, SilentAt, Silent}
 use Rattle.lu_spec_laws.specs.Words.Held.{held, has_write_lock}
 use Rattle.lu_spec_laws.specs.Words.Lives.{who_is}
@@ -129,9 +129,9 @@ module _ (head : Head) where
         | _ ↦ Unit {0}
       ]
 
-  nothing_due : (past : List Line) → Settled past → Due past []
-  nothing_due [] s = tt
-  nothing_due (l ∷ past) s = by l.entry s (nothing_due past)
+  nothing_due : (past : List Line) (later : List PrintedLine) → Settled past → Due past later
+  nothing_due [] later s = tt
+  nothing_due (l ∷ past) later s = by l.entry s (nothing_due past later)
     where
       quiet : (stage : Stage) (k : Call) → BeginQuiet stage k → MayKnow k → ⊥
       quiet Bad k q r = q
@@ -142,14 +142,14 @@ module _ (head : Head) where
       quiet stage (call.Glimpse h) q r = ⊎_elim (λ (n : ⊥). n) (λ (n : ⊥). n) r
       quiet stage k q r = q
 
-      by : (e : Entry) → Settled (line l.at e ∷ past) → (Settled past → Due past []) → Due (line l.at e ∷ past) []
+      by : (e : Entry) → Settled (line l.at e ∷ past) → (Settled past → Due past later) → Due (line l.at e ∷ past) later
       by (Begin slot running) s more = λ c own due. ⊎_elim
           (λ (bad : running.stage ≡ Bad). absurd (subst (λ (v : Stage). BeginQuiet v running.call) bad s))
           (λ (h : MayKnow running.call × KnownAt c past running.call × Unmarked (held_at c past) × NoWrites c past × (is_over c (life_at c past) past ≡ false)). absurd (quiet running.stage running.call s h.0))
           due
       by (Pins name) s more = absurd s
       by (Unpins name) s more = more s
-      by (Stands slot running) s more = over_in running.stage (Due past []) (λ i. more (stood_settled running.stage (Settled past) i s))
+      by (Stands slot running) s more = over_in running.stage (Due past later) (λ i. more (stood_settled running.stage (Settled past) i s))
       by _ s more = tt
 
   turn_self : (a b : At) → a ≡ b → same_turn b a ≡ true
@@ -780,6 +780,12 @@ module _ (head : Head) where
       by (Target t) (Begin slot running) y d = tt
       by _ _ y d = tt
 
+  -- whatever lines come later
+  pub silent_before : (past : List Line) (later : List PrintedLine) → Run head past → Settled past
+      → HoldsBefore Silent later (printed past)
+  silent_before past later y settled =
+      holds_owed head Silent (Run head) (λ l past k. before head l past k) Due (λ past l later g y d. due_before past l later y d)
+      (λ past l later a g y d. silent_at past l later y d) past later y.grown y (nothing_due past later settled)
+
   pub silent_law : (past : List Line) → Run head past → Settled past → Holds Silent (printed past)
-  silent_law past y settled =
-      holds_owed head Silent (Run head) (λ l past k. before head l past k) Due (λ past l later g y d. due_before past l later y d) (λ past l later a g y d. silent_at past l later y d) past [] y.grown y (nothing_due past settled)
+  silent_law past y settled = silent_before past [] y settled

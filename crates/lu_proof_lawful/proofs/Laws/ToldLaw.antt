@@ -721,7 +721,13 @@ module _ (head : Head) (is : IsHead head) (out : Who → Bool) (lost : ℕ → �
       by (Client c) (Made d) k s due = absurd k.ok
       by _ _ k s due = tt
 
+  -- whatever lines come later
+  pub acts_before : (past : List Line) (later : List PrintedLine) → Grown head past → Settled past
+      → Inside head out lost whole past → HeardStand out lost past → HoldsBefore (ActsOf out lost (printed whole)) later (printed past)
+  acts_before past later g settled i s =
+      holds_due head (ActsOf out lost (printed whole)) Known earlier Due (due_before head) acts_at past later g (i, s)
+      (nothing_due past later settled)
+
   pub acts_law : (past : List Line) → Grown head past → Settled past → Inside head out lost whole past → HeardStand out lost past
       → HoldsBefore (ActsOf out lost (printed whole)) [] (printed past)
-  acts_law past g settled i s = holds_due head (ActsOf out lost (printed whole)) Known earlier Due (due_before head) acts_at past [] g
-      (i, s) (nothing_due past settled)
+  acts_law past g settled i s = acts_before past [] g settled i s

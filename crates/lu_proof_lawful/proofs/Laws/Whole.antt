@@ -29,7 +29,7 @@ use Rattle.lu_proof_lawful.proofs.Laws.SilentLaw.{silent_law}
 use Rattle.lu_proof_lawful.proofs.Laws.HistoryLaw.{history_law}
 use Rattle.lu_proof_lawful.proofs.Laws.GlimpseLaw.{glimpse_law}
 
-head_is : (head : table.Head) → table.IsHead head → IsHead (covered_head head)
+pub head_is : (head : table.Head) → table.IsHead head → IsHead (covered_head head)
 head_is head i =
     record {
       clients = i.clients;
@@ -52,7 +52,7 @@ acts_of head turns is run covered out lost fits =
     (λ d a. a, λ who f r h. h) fits.heard
 
 -- what is known of the lines of a run
-of_run : (head : table.Head) (turns : List Turn) → table.IsHead head → IsRun head turns → AllCovered (lines_of turns)
+pub of_run : (head : table.Head) (turns : List Turn) → table.IsHead head → IsRun head turns → AllCovered (lines_of turns)
     → OfRun (covered_head head) (lines_of turns)
 of_run head turns is run covered =
     let g = grown head turns run covered in

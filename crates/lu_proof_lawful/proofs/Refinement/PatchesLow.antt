@@ -127,8 +127,8 @@ piece_fits : (running : Running) (work : Work) (stripe : ℕ) (change : Flush) �
     → piece_on work.layout work.kind stripe ≡ Some change → InFile change
 piece_fits running work stripe change limits (inl w) piece =
     let is : flush.Put (below_on work.layout stripe w.offset) (bytes_on work.layout stripe w.offset w.bytes) ≡ change = one
-        (flush.Put (below_on work.layout stripe w.offset) (bytes_on work.layout stripe w.offset w.bytes)) change
-        (ap (λ (k : Kind). piece_on work.layout k stripe) (sym w.kind) ∙ piece) in
+    (flush.Put (below_on work.layout stripe w.offset) (bytes_on work.layout stripe w.offset w.bytes)) change
+    (ap (λ (k : Kind). piece_on work.layout k stripe) (sym w.kind) ∙ piece) in
     subst InFile is
     (let low = below_low work.layout stripe w.offset in
     let few = on_length work.layout stripe w.offset w.bytes in
@@ -139,9 +139,9 @@ piece_fits running work stripe change limits (inl w) piece =
     one a b e = cc
 piece_fits running work stripe change limits (inr w) piece =
     let is : flush.Cut (below_on work.layout stripe w.size) ≡ change = one (flush.Cut (below_on work.layout stripe w.size)) change
-        (ap (λ (k : Kind). piece_on work.layout k stripe) (sym w.kind) ∙ piece) in
+    (ap (λ (k : Kind). piece_on work.layout k stripe) (sym w.kind) ∙ piece) in
     subst InFile is (let low = below_low work.layout stripe w.size in let short = (subst IsCall w.cuts limits).1 in
-        omega (arith, low, short))
+    omega (arith, low, short))
   where
     one : (a b : Flush) → Some a ≡ Some b → a ≡ b
     one a b e = cc
@@ -163,7 +163,7 @@ acked_low patch rises low = by patch.flight refl
     by None e = subst (λ (o : Option Flying). IsLow (acked_flight patch o)) (sym e) low
     by (Some (CutFlies n)) e =
         subst (λ (o : Option Flying). IsLow (acked_flight patch o)) (sym e)
-            (record { dirty = low.dirty; pending = λ m q. low.pending m (other_low n m patch.pending q) })
+        (record { dirty = low.dirty; pending = λ m q. low.pending m (other_low n m patch.pending q) })
     by (Some BytesFly) e =
         record {
           dirty = λ p b q. low.dirty p b (stays p b (flying_at patch p) (sym (bytes_acked patch p rises e).dirty ∙ q));
@@ -202,7 +202,7 @@ on_low : (s : Resource) (f : Patch → Patch) (m : List (Resource × Patch)) →
 on_low s f m low all r = ⊎_elim
     (λ (e : patch_at r (on_object s f m) ≡ patch_at r m). subst IsLow (sym e) (all r))
     (λ (e : (s ≡ r) × (patch_at r (on_object s f m) ≡ f (patch_at r m))). subst IsLow (sym e.1)
-        (subst (λ (q : Resource). IsLow (f (patch_at q m))) e.0 low))
+    (subst (λ (q : Resource). IsLow (f (patch_at q m))) e.0 low))
     (patch_on s r f m)
 
 clean_low : (r : Resource) → IsLow (patch_at r [])
@@ -225,10 +225,10 @@ module _ (head : Head) (c : ℕ) where
       taken d s change ok own all =
           let same = eqb-true c d own in
           let under = under_pw (patch_at s
-              (patches_at d past)) ok.holding.lock.ask.mode ok.holding.lock.ask.policy change ok.mode ok.next in
+          (patches_at d past)) ok.holding.lock.ask.mode ok.holding.lock.ask.policy change ok.mode ok.next in
           let next = next_is under.0 (patch_at s (patches_at d past)) change (patch_rises d past s) under.2 in
           let carries : Carries (patch_at s m) change = subst (λ (n : ℕ). Carries (patch_at s (patches_at n past)) change) (sym same)
-              (next_carries under.0 (patch_at s (patches_at d past)) change next) in
+          (next_carries under.0 (patch_at s (patches_at d past)) change next) in
           on_low s (flown change) m (taken_low change (patch_at s m) carries (all s)) all
 
       by : (node : Node) (e : word.Entry) → EntryOk past (turn l.at.stamp node) node e → AllLow m
@@ -236,9 +236,9 @@ module _ (head : Head) (c : ℕ) where
       by (Client d) (word.Changes s change) ok all =
           if_own (nat_eq c d) (with_object s (made change (patch_at s m)) m)
           (λ own. with_low s (made change (patch_at s m)) m
-              (made_low change (patch_at s m)
-              (piece_fits ok.running ok.work ok.next.want.resource.stripe change
-              (limited head past g.1 d ok.slot ok.running ok.call) ok.does ok.is) (all s)) all)
+          (made_low change (patch_at s m)
+          (piece_fits ok.running ok.work ok.next.want.resource.stripe change
+          (limited head past g.1 d ok.slot ok.running ok.call) ok.does ok.is) (all s)) all)
           all
       by (Client d) (word.WritesBack s change) ok all = if_own (nat_eq c d) (on_object s (flown change) m)
           (λ own. taken d s change ok own all) all
