@@ -57,7 +57,7 @@ use Rattle.lu_proof_lawful.proofs.Invariants.LockLists.{brought_again}
 use Rattle.lu_proof_lawful.proofs.Invariants.Sides.{flew_kind}
 use Rattle.lu_proof_lawful.specs.Coming.{InFile, IsShort}
 use Rattle.lu_proof_lawful.proofs.Coming.Asked.{flew_in}
-use Rattle.lu_proof_lawful.proofs.Coming.Grants.{awaited_new}
+use Rattle.lu_proof_taken.proofs.Grants.{awaited_new}
 use Rattle.lu_proof_lawful.proofs.Coming.Sizes.{answers_short, notices_short}
 
 -- ---- locks that come are new
@@ -119,7 +119,7 @@ slot_of name c s past e = by (is_waiter name (call_at c 0 past)) refl (is_waiter
     by : (x : Bool) → is_waiter name (call_at c 0 past) ≡ x → (y : Bool) → is_waiter name (call_at c 1 past) ≡ y → (z : Bool)
         → is_waiter name (call_at c 2 past) ≡ z → (w : Bool) → is_waiter name (call_at c 3 past) ≡ w
         → (if x then Some 0 else if y then Some 1 else if z then Some 2 else if w then Some 3 else None) ≡ Some s
-            → (i : ℕ) × (i < 4) × (is_waiter name (call_at c i past) ≡ true)
+        → (i : ℕ) × (i < 4) × (is_waiter name (call_at c i past) ≡ true)
     by true a y b z d w f e = (0, omega arith, a)
     by false a true b z d w f e = (1, omega arith, b)
     by false a false b true d w f e = (2, omega arith, d)
@@ -187,7 +187,7 @@ module _ (head : Head) (past : List Line) (g : Grown (covered_head head) past) (
     flights_story : (import_of t k.imports).flights ≡ flights_of life story
     flights_story =
         ap (λ (i : Import). i.flights) import_is ∙ flights_is (covered_head head) c t past g
-            ∙ ap (λ (who : Who). flights_of who story) (life_is_of c t past)
+        ∙ ap (λ (who : Who). flights_of who story) (life_is_of c t past)
 
     -- ---- a reply to a request that is in flight
 
@@ -208,8 +208,8 @@ module _ (head : Head) (past : List Line) (g : Grown (covered_head head) past) (
           let who : d.reply.who ≡ life = sym (ap (λ (v : ReplyTo). v.who) meant.is) ∙ mine in
           let xid : f.xid ≡ flew.0.xid = number ∙ ap (λ (v : ReplyTo). v.xid.0) meant.is ∙ sym flew.2 in
           ap (λ (x : Flight). x.op)
-              (h.numbers.one life f flew.0 (h.numbers.flying life f flying) (subst (λ (w : Who). Flew story w flew.0) who flew.1) xid)
-              ∙ flew.3
+          (h.numbers.one life f flew.0 (h.numbers.flying life f flying) (subst (λ (w : Who). Flew story w flew.0) who flew.1) xid)
+          ∙ flew.3
 
       brings : brought f.op r ≡ brought d.op d.reply
       brings = ap (λ (o : Op). brought o r) same_op ∙ brought_again d.op d.reply r meant.is
@@ -220,7 +220,7 @@ module _ (head : Head) (past : List Line) (g : Grown (covered_head head) past) (
           let among : In l (brought d.op d.reply) = subst (λ (ls : List Lock). In l ls) brings i in
           let one = (h.locks.once d holding.deed l x.lock (meant.acted, inl among) holding.gave (sym same)).0 in
           let xid : f.xid ≡ holding.deed.reply.xid.0 = number ∙ ap (λ (v : ReplyTo). v.xid.0) meant.is
-              ∙ ap (λ (v : Deed). v.reply.xid.0) one in
+          ∙ ap (λ (v : Deed). v.reply.xid.0) one in
           (h.numbers.over life holding.deed.reply.xid.0 holding.heard).1 f flying xid
 
       asked : IsAskedOf t f.op
@@ -231,8 +231,8 @@ module _ (head : Head) (past : List Line) (g : Grown (covered_head head) past) (
           (reply_differs (covered_head head) story (node.Target t) c r (grown_of (covered_head head) t past g) here)
       differ (inr object) =
           subst (λ (ls : List Lock). Differ (ls ++ granted_lock f.op r r.answer))
-              (sym (reply_bare (covered_head head) t past g object.0 (node.Target t) (node.Client c) r here))
-              (one_differs f.op r r.answer)
+          (sym (reply_bare (covered_head head) t past g object.0 (node.Target t) (node.Client c) r here))
+          (one_differs f.op r r.answer)
 
       locks_new : are_new t (brought f.op r) k.store.held ≡ true
       locks_new = new_so t (brought f.op r) k.store.held (differ (asked_parts t f.op asked)) unheld
@@ -274,15 +274,15 @@ module _ (head : Head) (past : List Line) (g : Grown (covered_head head) past) (
     grant_new cookie i small waits x j of_target same =
         let w = waits_so (named (of t) cookie) (call_at c i past) waits in
         let heard : HeardToWait story (life_at c past) w.lock =
-            subst (λ (u : ℕ). HeardToWait (only u past) (life_at c past) w.lock) w.of_target
-                (waits_heard (covered_head head) past g c i w.call w.work w.target w.lock w.marked w.is w.stage) in
+        subst (λ (u : ℕ). HeardToWait (only u past) (life_at c past) w.lock) w.of_target
+        (waits_heard (covered_head head) past g c i w.call w.work w.target w.lock w.marked w.is w.stage) in
         let number = w.of_cookie in
         let tells : tells_wait heard.flight.op heard.reply.answer cookie.0 ≡ true =
-            subst (λ (o : Op). tells_wait o heard.reply.answer cookie.0 ≡ true) (sym heard.asked)
-            (subst (λ (a : Answer). tells_wait (op.Enqueue w.lock.resource w.lock.ask.mode heard.extent) a cookie.0 ≡ true)
-                (sym heard.told) (same_so w.lock.cookie.0 cookie.0 number)) in
+        subst (λ (o : Op). tells_wait o heard.reply.answer cookie.0 ≡ true) (sym heard.asked)
+        (subst (λ (a : Answer). tells_wait (op.Enqueue w.lock.resource w.lock.ask.mode heard.extent) a cookie.0 ≡ true)
+        (sym heard.told) (same_so w.lock.cookie.0 cookie.0 number)) in
         let some : 0 < awaits_of (life_at c past) cookie.0 story = subst (λ (n : ℕ). 0 < n) (sym (awaits.counts t cookie.0))
-            (counted (lock_named t cookie.0) c i past small waits) in
+        (counted (lock_named t cookie.0) c i past small waits) in
         awaited_new (covered_head head) story h c cookie heard.flight heard.reply
         (subst (λ (who : Who). HeardAs story who heard.flight heard.reply) (life_is_of c t past) heard.heard) tells
         (subst (λ (who : Who). 0 < awaits_of who cookie.0 story) (life_is_of c t past) some)
@@ -300,8 +300,8 @@ module _ (head : Head) (past : List Line) (g : Grown (covered_head head) past) (
             let slot = slot_of (named (of t) n.cookie) c s past e in
             let free = free_so t n.cookie k.store.held (grant_new n.cookie slot.0 slot.1 slot.2) in
             let low = le_so n.size (2 ^ 40)
-                (notices_short (covered_head head) past g t (node.Target t) (node.Client c) n
-                (was_only t past (node.Target t) (node.Client c) (message.Grant n) (self t) was)) in
+            (notices_short (covered_head head) past g t (node.Target t) (node.Client c) n
+            (was_only t past (node.Target t) (node.Client c) (message.Grant n) (self t) was)) in
             rw (free, low) refl
 
         by : (b : Bool) → (if b then may_hold t n k (waiter (named (of t) n.cookie) 0 k.calls) else true) ≡ true

@@ -1,2 +1,4 @@
+pub mod Handed
+pub mod Grants
 pub mod Comes
 pub mod Stated

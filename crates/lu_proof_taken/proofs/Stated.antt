@@ -22,7 +22,7 @@ use Rattle.lu_proof_lawful.proofs.Preconditions.Turns.{covered_head}
 use Rattle.lu_proof_lawful.proofs.Invariants.All.{holds}
 use Rattle.lu_proof_lawful.proofs.Invariants.PartsStay.{in_every}
 use Rattle.lu_proof_lawful.proofs.Invariants.Groups.{HoldsAt}
-use Rattle.lu_proof_lawful.proofs.Coming.Handed.{replay_may, lock_may}
+use Rattle.lu_proof_taken.proofs.Handed.{replay_may, lock_may}
 use Rattle.lu_proof_lawful.proofs.Preconditions.Obey.{stands}
 use Rattle.lu_proof_lawful.proofs.Coming.Lives.{lives_are_few}
 use Rattle.lu_proof_taken.specs.Taken.{WasSent, AllMayCome, KeptAgain, RestoredAgain, HandsIn, AllMayBeKept, AllMayBeRestored}
@@ -65,7 +65,7 @@ module _ (head : Head) (turns : List Turn) (run : IsRun head turns) (covered : A
   kept : (r : RequestReplay) → HandsIn head past t r.who r.boot (message.Replay r) → KeptAgain head.osts (only t past) r
   kept r h =
       let may = replay_may (covered_head head) (only t past) story_holds h.recovers (Client h.from) t r
-          (sent_there h.from (message.Replay r) h.sent) h.present h.slot in
+      (sent_there h.from (message.Replay r) h.sent) h.present h.slot in
       record {
         earlier = may.earlier;
         late = may.late;
@@ -75,7 +75,7 @@ module _ (head : Head) (turns : List Turn) (run : IsRun head turns) (covered : A
   restored : (l : LockReplay) → HandsIn head past t l.who l.boot (message.Lock l) → RestoredAgain head.osts (only t past) l
   restored l h =
       let may = lock_may (covered_head head) (only t past) story_holds h.recovers (Client h.from) t l
-          (sent_there h.from (message.Lock l) h.sent) h.present h.slot in
+      (sent_there h.from (message.Lock l) h.sent) h.present h.slot in
       record {
         earlier = may.earlier;
         only = in_every (λ (k : Lock). k.cookie.0 ≡ l.cookie.0 → k.ask.who ≡ l.who) (brought_of (only t past)) may.only;

@@ -1,6 +1,7 @@
 -- A client's turn begins one life at most: each new life follows the notice that the old one is over, and a turn takes one
 -- message. So after so many turns no client has come further than one life more.
-use Rattle.std.proofs.Common.{◌≡◌, ℕ, ◌+◌, ◌≤◌, Bool, true, false, List, length, [], ◌∷◌, ◌⊎◌, inl, inr, ⊎_elim, refl, sym, subst, ap, ◌∙◌, arith}
+use Rattle.std.proofs.Common.{◌≡◌, ℕ, ◌+◌, ◌≤◌, Bool, true, false, List, length, [], ◌∷◌, ◌⊎◌, inl, inr, ⊎_elim, refl, sym, subst}
+use Rattle.std.proofs.Common.{ap, ◌∙◌, arith}
 use Rattle.std.specs.Prelude.{nat_eq}
 use Rattle.std.proofs.lemmas.Bool.{cond-true, eqb-true}
 use Rattle.lu_base.specs.declared.ids.At.{At}

@@ -1,5 +1,5 @@
--- What a target that recovers is handed in, in its present boot and by a life with a slot, it may keep: a replay is of what was done in an earlier
--- boot, under a number that is that life's alone; a lock is one that was given in an earlier boot, to that life alone.
+-- What a target that recovers is handed in, in its present boot and by a life with a slot, it may keep: a replay is of what was done
+-- in an earlier boot, under a number that is that life's alone; a lock is one that was given in an earlier boot, to that life alone.
 use Rattle.std.proofs.Common.{◌≡◌, ℕ, ◌<◌, ◌≤◌, false, sym, ap, ◌∙◌, arith}
 use Rattle.std.specs.Prelude.{◌==◌, List}
 use Rattle.std.proofs.lemmas.Bool.Decides.{nat_tests}
