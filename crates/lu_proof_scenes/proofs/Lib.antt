@@ -17,6 +17,8 @@ pub mod AnyTurn
 pub mod AnyRun
 pub mod AnyLeft
 pub mod AnyStated
+pub mod Calls
+pub mod AnyFailed
 pub use Rattle.lu_proof_lawful.proofs.Invariants.All
 pub use Rattle.lu_proof_lawful.proofs.Invariants.Asked
 pub use Rattle.lu_proof_lawful.proofs.Invariants.Groups

@@ -408,7 +408,7 @@ asks_served MayAsk clients w l (g ∷ gs) =
     cond_both (list_any (same_glimpse g) w.glimpses) (ask_of w l g.request ∷ asks_again w l gs) (asks_again w l gs)
     (AllServed ⊥ MayAsk clients) (λ t. (tt, asks_served MayAsk clients w l gs)) (λ t. asks_served MayAsk clients w l gs)
 
-again_served : (MayAsk : Type 0) (clients : ℕ) (w : Target) (cs : List Called) (gs : List Glimpse) (locks : List Lock)
+pub again_served : (MayAsk : Type 0) (clients : ℕ) (w : Target) (cs : List Called) (gs : List Glimpse) (locks : List Lock)
     → AllServed ⊥ MayAsk clients (sends_again w cs gs locks)
 again_served MayAsk clients w cs gs [] = tt
 again_served MayAsk clients w cs gs (l ∷ locks) =

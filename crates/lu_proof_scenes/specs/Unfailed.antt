@@ -15,6 +15,12 @@ OfUnfailedRuns P =
     (head : Head) (turns : List Turn) → IsHead head → IsRun head turns → has_failed (lines_of turns) ≡ false
     → P head.osts (printed (lines_of turns))
 
+-- and where one failed, it did so in the last turn
+abbrev pub OfRunsToFailure : (ℕ → Past → Type 0) → Type 0
+OfRunsToFailure P =
+    (head : Head) (last : Turn) (turns : List Turn) → IsHead head → IsRun head (last ∷ turns) → has_failed (lines_of turns) ≡ false
+    → P head.osts (printed (lines_of (last ∷ turns)))
+
 -- and for all lives that may be out and numbers that may be lost after the run
 abbrev pub OfAllThatFit : ((Who → Bool) → (ℕ → ℕ → Bool) → ℕ → Past → Type 0) → Type 0
 OfAllThatFit P =

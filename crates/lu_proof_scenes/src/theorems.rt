@@ -14,7 +14,7 @@ ghost use Rattle.lu_spec_laws.specs.Holds.{Holds};
 ghost use Rattle.lu_spec_laws.specs.Laws.Acts.{ActsOf};
 ghost use Rattle.lu_spec_laws.specs.Laws.History.{HistoryOf};
 ghost use Rattle.lu_spec_laws.specs.Orderly.{Orderly};
-ghost use Rattle.lu_proof_scenes.specs.Unfailed.{OfUnfailedRuns, OfAllThatFit, AllAreCovered, GoOn};
+ghost use Rattle.lu_proof_scenes.specs.Unfailed.{OfUnfailedRuns, OfRunsToFailure, OfAllThatFit, AllAreCovered, GoOn};
 
 /// Whatever a scenario comes to, where no call to a disk has failed, is a covered run of the whole table, so its trace is
 /// lawful, by all laws, whatever bytes it writes and whichever targets crash, boot, recover and close their windows. Where
@@ -39,10 +39,12 @@ pub fn scenes_are_lawful()
 /// Every run of the whole table in which no disk fails is covered, and its printed trace is lawful, by all seven laws, and
 /// orderly: whatever turns come, in whatever order, whoever performs them. The laws of acts and of history hold for all lives that
 /// may be out and numbers that may be lost at the end, so far as these fit the run. And one of fewer turns than 2^26 goes on
-/// with each turn that comes later and may come: each target has numbers left for it.
+/// with each turn that comes later and may come: each target has numbers left for it. A run of which a call to a disk fails in
+/// the last turn, whichever it is, has a lawful trace too (`failed`).
 pub fn every_run_is_lawful()
     ensures covered { AllAreCovered }
     ensures lawful { OfUnfailedRuns (λ osts whole. Lawful osts whole) }
+    ensures failed { OfRunsToFailure (λ osts whole. Lawful osts whole) }
     ensures orderly { OfUnfailedRuns (λ osts whole. Orderly osts whole) }
     ensures acts_of { OfAllThatFit (λ out lost osts whole. Holds (ActsOf out lost whole) whole) }
     ensures history_of { OfAllThatFit (λ out lost osts whole. Holds (HistoryOf out lost osts) whole) }
