@@ -1,5 +1,5 @@
-//! What comes to a client, and to a target that recovers, in every covered run. Each function does nothing: its contract is a theorem over the definition of a
-//! run.
+//! What comes to a client, and to a target that recovers, in every covered run. Each function does nothing: its contract is a
+//! theorem over the definition of a run.
 
 ghost use Rattle.lu_proof_taken.specs.Taken.{AllMayCome, AllMayBeKept, AllMayBeRestored};
 
