@@ -14,7 +14,7 @@ ghost use Rattle.lu_proof_bytes.specs.Objects.History.{gone, items, WholeLocks};
 
 /// The laws of an allowed whole past, of every target `t` and every object `o` of it.
 ///
-/// `projection`: the story of the object is an allowed one, so all that `lu_proof_bytes` says of stories holds of it.
+/// `projection`: the story of the object is an allowed one, so all that `object_theorems` says of stories holds of it.
 /// `locks`: two locks on one object, held by lives that no target evicted, don't conflict, but for a lock and itself.
 /// `history`: of any lives that will be out, if all that some target evicted are among them, each read told to a life that
 /// isn't out got the bytes that stand in the object's history there, up to its size: what lives that aren't out were told,

@@ -11,7 +11,7 @@ use Rattle.lu_proof_bytes.specs.Object.Folds.{Was, closed, top, Answered, WasGra
 use Rattle.lu_proof_bytes.specs.Object.Folds.{Changed, op_changes}
 use Rattle.lu_proof_bytes.specs.Object.Guards.{Fresh, GrantOk, WaitOk, PromoteOk, ActsOk, SendOk, New, CloseOk, HoldOk, Named, Allowed}
 
--- the boot that a message must have to be heeded; a `Block` is always heeded, and of a `Cancel` `proofs/Locks` speaks
+-- the boot that a message must have to be heeded; a `Block` is always heeded, and of a `Cancel` `proofs/Object/Locks` speaks
 abbrev pub boot_of : Message → ℕ
 boot_of (Ask b r) = b
 boot_of (Reply b c x a) = b

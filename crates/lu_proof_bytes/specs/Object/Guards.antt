@@ -148,7 +148,7 @@ IsTop h at n None = Unit {0}
 IsTop h at n (Some s) = (in_run at n s ≡ true) × (is_some (object nothing_lost h s) ≡ true)
 
 -- what is answered without a transaction: content of a granted lock's bytes, as the target has them; a refusal or a size at any time.
--- What a size tells is no part of this (the theorem `glimpses` says where one is that of the history)
+-- What a size tells is no part of this (`object_theorems::glimpses` says where one is that of the history)
 abbrev pub ActsOk : List Entry → Request → Answer → Type 0
 ActsOk h r Uncovered = Unit {0}
 ActsOk h r (Sized s) = Unit {0}

@@ -46,7 +46,7 @@ abbrev pub read_of : List Item → ℕ → ℕ → List ℕ
 read_of is at zero = []
 read_of is at (suc n) = value (plain is at) ∷ read_of is (suc at) n
 
--- the size of the plain map, change by change; `size_is` of `proofs/Views` shows that it is one more than the last position with a byte,
+-- the size of the plain map, change by change; `size_is` of `proofs/Object/Views` shows that it is one more than the last position with a byte,
 -- or 0
 abbrev pub size_of : List Item → ℕ
 size_of [] = 0

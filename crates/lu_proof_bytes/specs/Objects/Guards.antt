@@ -1,5 +1,5 @@
--- What each line of a whole past may rest on; nothing else ever happens. What concerns one object is said of its story (the
--- guards of `lu_proof_bytes`), what concerns a target or a life there of the whole past: boots, slots and what a close
+-- What each line of a whole past may rest on; nothing else ever happens. What concerns one object is said of its story
+-- (`specs/Object/Guards`), what concerns a target or a life there of the whole past: boots, slots and what a close
 -- owes (Lustre Operations Manual, recovery and multiple requests in flight), locks and calls for them (Wang et al.,
 -- Understanding Lustre Filesystem Internals, the lock manager), and seen numbers (this project's profile).
 use Rattle.std.specs.Prelude.{◌≤◌}
@@ -35,7 +35,7 @@ pub record WaitsAt (past : List Line) (t o g : ℕ) (r : Request) : Type 0 where
 -- target gave, over what was asked or more, where it conflicts with no granted one on the object, with the object's size
 -- and all that stands, may have changed something under it and isn't committed; or it has to wait, under a new cookie; or
 -- the request is answered without a transaction: a get with the bytes of the object, under a granted lock that covers them,
--- a glimpse with any size (which sizes are right, `theorems::glimpses` says), and any may be refused as uncovered; or a put
+-- a glimpse with any size (which sizes are right, `objects_theorems::glimpses` says), and any may be refused as uncovered; or a put
 -- or cut is a transaction, under a granted lock for writing that covers all that it may change
 abbrev pub ServedOk : List Line → ℕ → ℕ → Request → Entry → Type 0
 ServedOk past t o r (Grant q l s sn) = (q ≡ r) × (l.life ≡ r.life) × (top t past < l.cookie) × Asks r.op l

@@ -12,7 +12,7 @@ use Rattle.lu_spec_client.specs.Calls.{life_at}
 use Rattle.lu_proof_bytes.specs.Object.Words.{Entry}
 use Rattle.lu_proof_bytes.specs.Object.Folds.{evicted}
 
--- two numbers as one; `same_pair` of `proofs/Lives` shows that no two pairs share one
+-- two numbers as one; `same_pair` of `proofs/Projection/Lives` shows that no two pairs share one
 abbrev pub pair : ℕ → ℕ → ℕ
 pair zero l = 2 * l
 pair (suc c) l = suc (2 * pair c l)
