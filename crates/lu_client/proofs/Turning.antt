@@ -17,8 +17,11 @@ use Rattle.lu_spec_client.specs.Recovery.{ticks}
 use Rattle.lu_spec_client.specs.Rows.{Begins, Comes, Ticks, Dies, rests, row, row_call}
 use Rattle.lu_spec_client.specs.Sending.{sends_all}
 use Rattle.lu_spec_client.specs.Slots.{begins, slots_go}
+use Rattle.lu_spec_client.specs.Starts.{with_stripes}
 use Rattle.lu_spec_client.specs.States.{Client, Limits, turn, follow}
+use Rattle.lu_call.specs.Ranges.{IsCall}
 use Rattle.lu_msg.specs.declared.calls.Call.{Call}
+use Rattle.lu_msg.specs.declared.calls.Call.TheVariants.{Create}
 use Rattle.lu_msg.specs.declared.messages.Message.{Message}
 use Rattle.lu_trace.specs.declared.entries.Entry.TheVariants as line
 use Rattle.lu_trace.specs.declared.traces.Step.{Step}
@@ -94,6 +97,11 @@ noted_then : {c new : ClientState} {before between after : Making} (e : Entry) (
 noted_then {c = c} {new = new} {before = before} {between = between} {after = after} e row first next =
     makes_as {row = λ k. e ∷ row c.client} refl (makes_on {e = e} {es = row c.client} first
     (makes_as {row = row} {other = λ k. row c.client} refl next))
+
+-- a call with its stripes is in range as it was
+pub still_call : (c : Call) → IsCall c → IsCall (with_stripes c)
+still_call (Create p None) is = is
+still_call c is = is
 
 -- a call began on a free slot
 pub begun_turn : {old middle new : ClientState} {between after : Making} (stamp : Stamp) (slot : ℕ) (c : Call)

@@ -4,6 +4,7 @@ ghost use Rattle.std.specs.Prelude.{◌≡◌, ◌<◌, [], ◌∷◌, true, fal
 ghost use Rattle.lu_base.specs.declared.ids.Node.TheVariants.{Target};
 ghost use Rattle.lu_call.specs.Ranges.{IsCall};
 ghost use Rattle.lu_spec_client.specs.Calls.{call_on};
+ghost use Rattle.lu_spec_client.specs.Starts.{with_stripes};
 ghost use Rattle.lu_spec_client.specs.Rows.{rests, Begins, Comes, Ticks, Dies};
 ghost use Rattle.lu_msg.specs.Limits.{slot_count};
 ghost use Rattle.lu_spec_entries.specs.Given.{step_of};
@@ -15,21 +16,23 @@ ghost use Rattle.lu_client.specs.Stepping.{row_at, step_at, stepped};
 
 use super::client::Client;
 use lu_base::{Memory, Stamp, TargetId};
+use lu_call::with_stripes;
 use lu_msg::{Call, Message};
 use lu_trace::{Entry, Step, Turn};
 
 impl Client {
-    /// A call begins on this slot, 0 to 3. Then each call goes as far as it can, the held locks are gone through, and what
-    /// has room is sent. Where the slot has a call that isn't told, the turn is the line that says so, and the client is then
-    /// as before. Fewer than 2^63 requests were sent to each target before.
+    /// A call begins on this slot, 0 to 3; a `create` that doesn't say its stripes begins with those of a new file that is
+    /// given no numbers. Then each call goes as far as it can, the held locks are gone through, and what has room is sent.
+    /// Where the slot has a call that isn't told, the turn is the line that says so, and the client is then as before. Fewer
+    /// than 2^63 requests were sent to each target before.
     pub fn call(&mut self, stamp: Stamp, slot: u8, call: Call) -> Result<Step, Memory>
         requires slot { slot < slot_count }
         requires range { IsCall call }
         requires numbers { self.old.spent ≡ false → HasNumbers self.old.client.imports }
-        ensures step { IfOk result (λ step. step ≡ step_at stamp (Begins slot call) self.old) }
-        ensures after { OnOk result (self.new ≡ stepped stamp (Begins slot call) self.old) }
+        ensures step { IfOk result (λ step. step ≡ step_at stamp (Begins slot (with_stripes call)) self.old) }
+        ensures after { OnOk result (self.new ≡ stepped stamp (Begins slot (with_stripes call)) self.old) }
         ensures busy { is_some (call_on slot self.old.client.calls) ≡ true
-            → row_at stamp (Begins slot call) self.old ≡ BusyLine slot ∷ [] }
+            → row_at stamp (Begins slot (with_stripes call)) self.old ≡ BusyLine slot ∷ [] }
         ensures kept { is_some (call_on slot self.old.client.calls) ≡ true → OnOk result (self.new ≡ self.old) }
         ensures spent { OnErr result (self.new.spent ≡ true) }
         ensures again { self.old.spent ≡ true → IsErr result }
@@ -111,10 +114,11 @@ impl Client {
         requires free { call_on slot self.old.client.calls ≡ None }
         requires range { IsCall call }
         requires numbers { HasNumbers self.old.client.imports }
-        ensures step { IfOk result (λ step. step ≡ step_at stamp (Begins slot call) self.old) }
-        ensures after { OnOk result (self.new ≡ stepped stamp (Begins slot call) self.old) }
+        ensures step { IfOk result (λ step. step ≡ step_at stamp (Begins slot (with_stripes call)) self.old) }
+        ensures after { OnOk result (self.new ≡ stepped stamp (Begins slot (with_stripes call)) self.old) }
         ensures counted { OnOk result (AreCounted self.old.client.imports self.new.client.imports) }
     {
+        let call = with_stripes(call);
         let mut turn = self.turn(stamp);
         self.begin_call(&mut turn, slot, call)?;
         self.rest(&mut turn)?;

@@ -76,8 +76,7 @@ impl ClientSeat {
             (Begins slot (with_stripes call.now))
             stamp self.old self.new) }
     {
-        let call = with_stripes(call.copy(self.alloc)?);
-        self.client.call(stamp, slot, call)
+        self.client.call(stamp, slot, call.copy(self.alloc)?)
     }
 
     /// The turn in which a message comes. The client doesn't know the message's number.
@@ -120,21 +119,5 @@ impl ClientSeat {
         let step = self.client.die(stamp)?;
         self.dead = true;
         Ok(step)
-    }
-}
-
-/// A `create` that doesn't say its stripes has those that the language of scenarios gives it: of 1 MiB, one of them.
-fn with_stripes(call: Call) -> Call
-    ensures call { result ≡ with_stripes call }
-{
-    match call {
-        Call::Create {
-            path,
-            stripes: None,
-        } => Call::Create {
-            path,
-            stripes: Some((1_048_576, 1)),
-        },
-        other => other,
     }
 }
