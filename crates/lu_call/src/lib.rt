@@ -18,5 +18,6 @@ mod writing;
 
 pub use calls::{Asking, CallState, Stage};
 pub use hearing::CameLock;
+pub use names::with_stripes;
 pub use nexts::{Binding, Next};
 pub use works::{HandleFile, Kind, Work};

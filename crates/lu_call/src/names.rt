@@ -4,7 +4,7 @@ ghost use Rattle.std.specs.Prelude.{◌≡◌, ℕ, List, IfOk, OnOk};
 ghost use Rattle.lu_base.specs.declared.ids.Cookie.{Cookie as CookieOf};
 ghost use Rattle.lu_cache.specs.Tells.{notes, known_on, known_of, locks_of, of_file};
 ghost use Rattle.lu_spec_client.specs.Known.{Known as RowKnown, KnownFile, found_at_path, directory_known, names_of};
-ghost use Rattle.lu_spec_client.specs.Starts.{asks_names, names_op, starts_known, starts_stat};
+ghost use Rattle.lu_spec_client.specs.Starts.{asks_names, names_op, starts_known, starts_stat, with_stripes};
 ghost use Rattle.lu_spec_client.specs.Starts.{pins, with_pins, tells_known, stats};
 ghost use Rattle.lu_spec_entries.specs.Carried.{Stats};
 ghost use Rattle.lu_spec_entries.specs.Words.{Pins};
@@ -42,6 +42,22 @@ pub(crate) struct FileStat {
     /// The number of names.
     pub(crate) links: u64,
     pub(crate) layout: Layout,
+}
+
+/// A `create` that doesn't say its stripes has those of a new file that is given no numbers: of 1 MiB, one of them.
+pub fn with_stripes(call: Call) -> Call
+    ensures call { result ≡ with_stripes call }
+{
+    match call {
+        Call::Create {
+            path,
+            stripes: None,
+        } => Call::Create {
+            path,
+            stripes: Some((DEFAULT_SIZE, DEFAULT_COUNT)),
+        },
+        other => other,
+    }
 }
 
 /// What a call that always asks the metadata target asks; none of the other calls.

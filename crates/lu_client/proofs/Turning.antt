@@ -1,6 +1,8 @@
 -- What a client gives in its turn, and how it is after it, by the row of what happens to it.
 use Rattle.std.proofs.Common.{◌≡◌, ℕ, ◌+◌, ◌<◌, ◌≤◌, ◌^◌, true, List, [], ◌∷◌, Option, Some, None, is_some, refl, sym, ap, subst, ◌∙◌}
-use Rattle.std.proofs.Common.{arith}
+use Rattle.std.proofs.Common.{Result, Ok, Err, arith}
+use Rattle.std.specs.Prelude.{IfOk, OnOk}
+use Rattle.lu_base.specs.declared.faults.Memory.{Memory}
 use Rattle.lu_base.specs.declared.ids.At.{At}
 use Rattle.lu_base.specs.declared.ids.Node.{Node}
 use Rattle.lu_base.specs.declared.ids.Node.TheVariants.{Client as FromClient, Target}
@@ -15,17 +17,21 @@ use Rattle.lu_spec_client.specs.Recovery.{ticks}
 use Rattle.lu_spec_client.specs.Rows.{Begins, Comes, Ticks, Dies, rests, row, row_call}
 use Rattle.lu_spec_client.specs.Sending.{sends_all}
 use Rattle.lu_spec_client.specs.Slots.{begins, slots_go}
+use Rattle.lu_spec_client.specs.Starts.{with_stripes}
 use Rattle.lu_spec_client.specs.States.{Client, Limits, turn, follow}
+use Rattle.lu_call.specs.Ranges.{IsCall}
 use Rattle.lu_msg.specs.declared.calls.Call.{Call}
+use Rattle.lu_msg.specs.declared.calls.Call.TheVariants.{Create}
 use Rattle.lu_msg.specs.declared.messages.Message.{Message}
 use Rattle.lu_trace.specs.declared.entries.Entry.TheVariants as line
+use Rattle.lu_trace.specs.declared.traces.Step.{Step}
 use Rattle.lu_trace.specs.Turns.{Making, no_step, with_line}
 use Rattle.lu_spec_entries.specs.Carried.{Running}
 use Rattle.lu_spec_entries.specs.Given.{step_of}
 use Rattle.lu_spec_entries.specs.Words.{Entry, Busy, Take, Tick, Die}
 use Rattle.lu_client.specs.Clients.{ClientState, AsksNoMore, Makes, turn_of}
 use Rattle.lu_client.specs.Numbers.{AreCounted, HasNumbers}
-use Rattle.lu_client.specs.Stepping.{row_at, stepped}
+use Rattle.lu_client.specs.Stepping.{row_at, step_at, stepped}
 use Rattle.lu_client.proofs.Making.{makes_as, makes_at, makes_note, makes_on, makes_then}
 use Rattle.lu_client.proofs.Unasked.{is_flight, begins_unasked, comes_unasked, locks_unasked, makes_asks, ticks_unasked, trims_unasked}
 
@@ -42,9 +48,6 @@ counted_then {one = one} {two = two} three asks counted t =
     let most : (import_of t two).last ≤ (import_of t one).last = asks.last t in
     let more : (import_of t three).last ≤ (import_of t two).last + 8 = counted t in
     omega (arith, most, more)
-
-pub counted_none : (imports : List Import) → AreCounted imports imports
-counted_none imports t = omega arith
 
 -- ---- what follows each event
 
@@ -95,6 +98,11 @@ noted_then {c = c} {new = new} {before = before} {between = between} {after = af
     makes_as {row = λ k. e ∷ row c.client} refl (makes_on {e = e} {es = row c.client} first
     (makes_as {row = row} {other = λ k. row c.client} refl next))
 
+-- a call with its stripes is in range as it was
+pub still_call : (c : Call) → IsCall c → IsCall (with_stripes c)
+still_call (Create p None) is = is
+still_call c is = is
+
 -- a call began on a free slot
 pub begun_turn : {old middle new : ClientState} {between after : Making} (stamp : Stamp) (slot : ℕ) (c : Call)
     → call_on slot old.client.calls ≡ None
@@ -113,11 +121,28 @@ module _ (stamp : Stamp) (slot : ℕ) (c : Call) (k : ClientState) where
   busy_row : is_some (call_on slot k.client.calls) ≡ true → row_at stamp (Begins slot c) k ≡ Busy slot ∷ []
   busy_row some = busy_of (call_on slot k.client.calls) some
 
-  pub busy_still : is_some (call_on slot k.client.calls) ≡ true → k ≡ stepped stamp (Begins slot c) k
+  busy_still : is_some (call_on slot k.client.calls) ≡ true → k ≡ stepped stamp (Begins slot c) k
   busy_still some =
       ap (λ (l : Client). record k { client = l }) (turned_calls k.client k.client.calls (Busy slot ∷ []) refl
       (sym (calls_quiet k.client.calls (Busy slot ∷ []) refl)))
       ∙ ap (λ (es : List Entry). record k { client = turn k.client es }) (sym (busy_row some))
+
+  busy_gives : is_some (call_on slot k.client.calls) ≡ true → step_of (turn_of stamp k) (Busy slot ∷ []) ≡ step_at stamp (Begins slot c) k
+  busy_gives some = ap (step_of (turn_of stamp k)) (sym (busy_row some))
+
+  -- the line is all that the client gives, and it stays as it is
+  pub busy_step : (r made : Result Step Memory) → is_some (call_on slot k.client.calls) ≡ true → r ≡ made
+      → IfOk made (λ step. step ≡ step_of (turn_of stamp k) (Busy slot ∷ [])) → IfOk r (λ step. step ≡ step_at stamp (Begins slot c) k)
+  busy_step r (Ok step) some same gives =
+      let is : step ≡ step_at stamp (Begins slot c) k = gives ∙ busy_gives some in
+      subst (λ (v : Result Step Memory). IfOk v (λ s. s ≡ step_at stamp (Begins slot c) k)) (sym same) is
+  busy_step r (Err fault) some same gives =
+      subst (λ (v : Result Step Memory). IfOk v (λ s. s ≡ step_at stamp (Begins slot c) k)) (sym same) tt
+
+  pub busy_left : (r : Result Step Memory) (new : ClientState) → is_some (call_on slot k.client.calls) ≡ true → OnOk r (new ≡ k)
+      → OnOk r (new ≡ stepped stamp (Begins slot c) k)
+  busy_left (Ok step) new some kept = kept ∙ busy_still some
+  busy_left (Err fault) new some kept = tt
 
 -- a message came
 took : (c : ClientState) (before after : Making) (n : ℕ) (from : Node) (m : Message) → after.step

@@ -98,13 +98,13 @@ impl Client {
         if from.0 >= self.targets() {
             return false;
         }
-        self.accepts_from(from.0, message)
+        self.accepts_from(from, message)
     }
 
     /// The same of a message of one of its targets.
-    fn accepts_from(&self, target: u16, message: &Message) -> bool
-        requires target { target < length self.now.client.imports }
-        ensures may { result ≡ may_from target message.now self.now.client }
+    fn accepts_from(&self, target: TargetId, message: &Message) -> bool
+        requires target { target.0 < length self.now.client.imports }
+        ensures may { result ≡ may_from target.0 message.now self.now.client }
     {
         match message {
             Message::Reply(reply) => self.accepts_reply(target, reply),
@@ -117,9 +117,9 @@ impl Client {
     // ---- a reply
 
     /// One that no request in flight waits for, or whose answer doesn't fit, is only taken.
-    fn accepts_reply(&self, target: u16, reply: &Reply) -> bool
-        requires target { target < length self.now.client.imports }
-        ensures may { result ≡ may_reply target reply.now self.now.client }
+    fn accepts_reply(&self, target: TargetId, reply: &Reply) -> bool
+        requires target { target.0 < length self.now.client.imports }
+        ensures may { result ≡ may_reply target.0 reply.now self.now.client }
     {
         if !self.is_present(target, reply.who, reply.boot) {
             return true;
@@ -134,16 +134,16 @@ impl Client {
     }
 
     /// The request of this number in flight at a target; none where there is none.
-    fn find_request(&self, target: u16, xid: Xid) -> Option<&InFlight>
-        requires target { target < length self.now.client.imports }
+    fn find_request(&self, target: TargetId, xid: Xid) -> Option<&InFlight>
+        requires target { target.0 < length self.now.client.imports }
         ensures request { option_map flight_of (option_copied result)
-            ≡ find_flight xid.0 (import_of target self.now.client.imports).flights }
+            ≡ find_flight xid.0 (import_of target.0 self.now.client.imports).flights }
     {
-        self.imports[target as usize].find(xid)
+        self.imports[target.0 as usize].find(xid)
     }
 
-    fn accepts_answer(&self, target: u16, reply: &Reply, request: &InFlight) -> bool
-        ensures may { result ≡ may_answer target reply.now (flight_of request.now) self.now.client }
+    fn accepts_answer(&self, target: TargetId, reply: &Reply, request: &InFlight) -> bool
+        ensures may { result ≡ may_answer target.0 reply.now (flight_of request.now) self.now.client }
     {
         if !self.brings_new(target, reply, &request.op) {
             return false;
@@ -152,8 +152,8 @@ impl Client {
     }
 
     /// Whether none of the locks that a reply brings is held.
-    fn brings_new(&self, target: u16, reply: &Reply, op: &Op) -> bool
-        ensures new { result ≡ are_new target (brought op.now reply.now) self.now.client.store.held }
+    fn brings_new(&self, target: TargetId, reply: &Reply, op: &Op) -> bool
+        ensures new { result ≡ are_new target.0 (brought op.now reply.now) self.now.client.store.held }
     {
         let locks = reply.locks.as_slice();
         if !self.are_new(target, locks) {
@@ -166,8 +166,8 @@ impl Client {
     }
 
     /// Whether none of these locks of a target is held, and no two have one cookie.
-    fn are_new(&self, target: u16, locks: &[Lock]) -> bool
-        ensures new { result ≡ are_new target locks.now self.now.client.store.held }
+    fn are_new(&self, target: TargetId, locks: &[Lock]) -> bool
+        ensures new { result ≡ are_new target.0 locks.now self.now.client.store.held }
     {
         for (at, lock) in locks.iter().enumerate() {
             if !self.is_new(target, lock.cookie, &locks[..at]) {
@@ -178,13 +178,10 @@ impl Client {
     }
 
     /// Whether a lock of this cookie isn't held of a target, and none of the earlier ones has it.
-    fn is_new(&self, target: u16, cookie: Cookie, earlier: &[Lock]) -> bool
-        ensures new { result ≡ is_new target cookie earlier.now self.now.client.store.held }
+    fn is_new(&self, target: TargetId, cookie: Cookie, earlier: &[Lock]) -> bool
+        ensures new { result ≡ is_new target.0 cookie earlier.now self.now.client.store.held }
     {
-        let name = LockName {
-            target: TargetId(target),
-            cookie,
-        };
+        let name = LockName { target, cookie };
         if self.is_held(name) {
             return false;
         }
@@ -201,15 +198,15 @@ impl Client {
     // ---- a grant
 
     /// One that no call waits for is only taken.
-    fn accepts_grant(&self, target: u16, grant: &GrantNotice) -> bool
-        requires target { target < length self.now.client.imports }
-        ensures may { result ≡ may_grant target grant.now self.now.client }
+    fn accepts_grant(&self, target: TargetId, grant: &GrantNotice) -> bool
+        requires target { target.0 < length self.now.client.imports }
+        ensures may { result ≡ may_grant target.0 grant.now self.now.client }
     {
         if !self.is_present(target, grant.who, grant.boot) {
             return true;
         }
         let name = LockName {
-            target: TargetId(target),
+            target,
             cookie: grant.cookie,
         };
         if !self.has_waiter(name) {

@@ -90,18 +90,18 @@ impl Client {
     /// After want of memory the client is of no use.
     pub(crate) fn heed_answer(
         &mut self,
-        target: u16,
+        target: TargetId,
         slot: Option<u8>,
         op: &Op,
         reply: &Reply,
         locks: &[Lock],
     ) -> Result<(), Memory>
-        requires target { target < length self.old.client.imports }
+        requires target { target.0 < length self.old.client.imports }
         requires file { is_in_file op.now ≡ true }
         requires brought { locks.now ≡ brought op.now reply.now }
         requires fits { answer_fits op.now reply.now.answer ≡ true }
         ensures makes { OnOk result ((turn : Making) (f : Flight) → f.slot ≡ slot → f.op ≡ op.now
-            → Makes (heeds target f op.now reply.now reply.now.answer) self.old self.new turn turn) }
+            → Makes (heeds target.0 f op.now reply.now reply.now.answer) self.old self.new turn turn) }
     {
         match op {
             Op::Enqueue { .. } => {
@@ -114,7 +114,7 @@ impl Client {
                 page,
             } => {
                 let name = LockName {
-                    target: TargetId(target),
+                    target,
                     cookie: *cookie,
                 };
                 self.heed_get(slot, *resource, name, *page, &reply.answer)

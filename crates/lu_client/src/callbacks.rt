@@ -51,18 +51,18 @@ impl Client {
     }
 
     /// The boot of a target that is known; 1 of a target that the run doesn't have.
-    pub(crate) fn boot_known(&self, target: u16) -> u32
-        ensures boot { result ≡ (import_of target self.now.client.imports).boot }
+    pub(crate) fn boot_known(&self, target: TargetId) -> u32
+        ensures boot { result ≡ (import_of target.0 self.now.client.imports).boot }
     {
-        match self.imports.get(target as usize) {
+        match self.imports.get(target.0 as usize) {
             Some(import) => import.boot(),
             None => 1,
         }
     }
 
     /// Whether a message of a target is for the client's life, and of the boot that it knows.
-    pub(crate) fn is_present(&self, target: u16, who: Who, boot: u32) -> bool
-        ensures present { result ≡ is_present who boot target self.now.client }
+    pub(crate) fn is_present(&self, target: TargetId, who: Who, boot: u32) -> bool
+        ensures present { result ≡ is_present who boot target.0 self.now.client }
     {
         self.is_life(who) && boot == self.boot_known(target)
     }
@@ -81,20 +81,20 @@ impl Client {
     pub(crate) fn take_grant(
         &mut self,
         turn: &mut Turn,
-        target: u16,
+        target: TargetId,
         grant: &GrantNotice,
     ) -> Result<(), Memory>
-        requires target { target < length self.old.client.imports }
-        requires may { may_grant target grant.now self.old.client ≡ true }
-        ensures makes { OnOk result (Makes (λ k. granted target grant.now k
-            (is_present grant.now.who grant.now.boot target k))
+        requires target { target.0 < length self.old.client.imports }
+        requires may { may_grant target.0 grant.now self.old.client ≡ true }
+        ensures makes { OnOk result (Makes (λ k. granted target.0 grant.now k
+            (is_present grant.now.who grant.now.boot target.0 k))
             self.old self.new turn.old turn.new) }
     {
         if !self.is_present(target, grant.who, grant.boot) {
             return Ok(());
         }
         let name = LockName {
-            target: TargetId(target),
+            target,
             cookie: grant.cookie,
         };
         match self.waiter(name) {
@@ -107,16 +107,16 @@ impl Client {
     fn grant_to(
         &mut self,
         turn: &mut Turn,
-        target: u16,
+        target: TargetId,
         slot: usize,
         grant: &GrantNotice,
     ) -> Result<(), Memory>
-        requires target { target < length self.old.client.imports }
-        requires waits { is_waiter (named (record { 0 = target }) grant.now.cookie)
+        requires target { target.0 < length self.old.client.imports }
+        requires waits { is_waiter (named target grant.now.cookie)
             (call_on slot self.old.client.calls) ≡ true }
-        requires absent { is_held (named (record { 0 = target }) grant.now.cookie) self.old.client.store.held ≡ false }
+        requires absent { is_held (named target grant.now.cookie) self.old.client.store.held ≡ false }
         requires short { grant.now.size ≤ 2 ^ 40 }
-        ensures makes { OnOk result (Makes (λ k. on_slot (lock_granted target grant.now) (Some slot) k)
+        ensures makes { OnOk result (Makes (λ k. on_slot (lock_granted target.0 grant.now) (Some slot) k)
             self.old self.new turn.old turn.new) }
     {
         let Some(came) = self.go_with_lock(slot, grant) else {
@@ -142,20 +142,19 @@ impl Client {
     fn hold_granted(
         &mut self,
         turn: &mut Turn,
-        target: u16,
+        target: TargetId,
         came: &CameLock,
         size: u64,
     ) -> Result<(), Memory>
-        requires absent { is_held (named (record { 0 = target }) came.now.lock.cookie) self.old.client.store.held
+        requires absent { is_held (named target came.now.lock.cookie) self.old.client.store.held
             ≡ false }
         requires short { size ≤ 2 ^ 40 }
         ensures held { OnOk result ((seen : _) → self.new ≡ with_store (stored_after (stored_of self.old)
-            (Hold target came.now.lock came.now.marked (Some size) seen)) self.old) }
+            (Hold target.0 came.now.lock came.now.marked (Some size) seen)) self.old) }
         ensures line { OnOk result (turn.new.step
-            ≡ with_line turn.old.at turn.old.step (printed.Hold (record { 0 = target }) came.now.lock.cookie)) }
+            ≡ with_line turn.old.at turn.old.step (printed.Hold target came.now.lock.cookie)) }
         ensures turn { turn.new.at ≡ turn.old.at }
     {
-        let target = TargetId(target);
         self.store
             .hold(target, &came.lock, came.marked, Some(size))?;
         turn.note(Entry::Hold {
@@ -166,14 +165,19 @@ impl Client {
 
     /// Keeps for a recovery of the target what a granted lock told of its transactions. After want of memory nothing has
     /// changed.
-    fn note_granted(&mut self, target: u16, committed: Txn, seen: &Numbers) -> Result<(), Memory>
-        requires target { target < length self.old.client.imports }
+    fn note_granted(
+        &mut self,
+        target: TargetId,
+        committed: Txn,
+        seen: &Numbers,
+    ) -> Result<(), Memory>
+        requires target { target.0 < length self.old.client.imports }
         ensures noted { OnOk result ((lock : LockOf) (marked : Bool) (size : Option ℕ) → self.new ≡ with_imports
-            (imports_turn self.old.client.imports (Hold target lock marked size seen.now ∷ Settles target committed.0
-            ∷ []))
+            (imports_turn self.old.client.imports (Hold target.0 lock marked size seen.now
+            ∷ Settles target.0 committed.0 ∷ []))
             self.old) }
     {
-        let import = &mut self.imports[target as usize];
+        let import = &mut self.imports[target.0 as usize];
         import.note(committed, seen)
     }
 
@@ -184,21 +188,18 @@ impl Client {
     pub(crate) fn call_back(
         &mut self,
         turn: &mut Turn,
-        target: u16,
+        target: TargetId,
         who: Who,
         cookie: Cookie,
     ) -> Result<(), Memory>
-        requires target { target < length self.old.client.imports }
-        ensures makes { OnOk result (Makes (λ k. blocked (named (record { 0 = target }) cookie) k (same_life who k.who))
+        requires target { target.0 < length self.old.client.imports }
+        ensures makes { OnOk result (Makes (λ k. blocked (named target cookie) k (same_life who k.who))
             self.old self.new turn.old turn.new) }
     {
         if !self.is_life(who) {
             return Ok(());
         }
-        let name = LockName {
-            target: TargetId(target),
-            cookie,
-        };
+        let name = LockName { target, cookie };
         if self.mark_held(name) {
             return Ok(());
         }

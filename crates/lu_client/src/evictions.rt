@@ -13,7 +13,7 @@ ghost use Rattle.lu_client.specs.Clients.{Makes};
 ghost use Rattle.lu_client.specs.Comings.{may_evict};
 
 use super::client::Client;
-use lu_base::{Memory, Node, Who};
+use lu_base::{Memory, Node, TargetId, Who};
 use lu_import::Import;
 use lu_msg::{Answer, Errno, Message, Post};
 use lu_trace::{Entry, Turn};
@@ -130,17 +130,17 @@ impl Client {
         ensures makes { OnOk result (Makes (joins_left 0) self.now self.now turn.old turn.new) }
     {
         for target in 0..self.targets() {
-            self.join_at(turn, target)?;
+            self.join_at(turn, TargetId(target))?;
         }
         Ok(())
     }
 
     /// A target is asked so.
-    fn join_at(&self, turn: &mut Turn, target: u16) -> Result<(), Memory>
-        ensures makes { OnOk result (Makes (joins_one target) self.now self.now turn.old turn.new) }
+    fn join_at(&self, turn: &mut Turn, target: TargetId) -> Result<(), Memory>
+        ensures makes { OnOk result (Makes (joins_one target.0) self.now self.now turn.old turn.new) }
     {
         turn.send(Post {
-            to: Node::Target(target),
+            to: Node::Target(target.0),
             message: Message::Join {
                 who: self.who,
                 boot: self.boot_known(target),

@@ -32,11 +32,11 @@ impl Client {
     pub(crate) fn tell_size(
         &self,
         turn: &mut Turn,
-        target: u16,
+        target: TargetId,
         who: Who,
         question: Question,
     ) -> Result<(), Memory>
-        ensures makes { OnOk result (Makes (λ k. asked turn.old.at target (question_of question) k
+        ensures makes { OnOk result (Makes (λ k. asked turn.old.at target.0 (question_of question) k
             (same_life who k.who))
             self.now self.now turn.old turn.new) }
     {
@@ -44,7 +44,7 @@ impl Client {
             return Ok(());
         }
         let name = LockName {
-            target: TargetId(target),
+            target,
             cookie: question.cookie,
         };
         let size = self.size_held(name);
@@ -55,17 +55,17 @@ impl Client {
     fn report_size(
         &self,
         turn: &mut Turn,
-        target: u16,
+        target: TargetId,
         question: Question,
         size: Option<u64>,
     ) -> Result<(), Memory>
-        ensures makes { OnOk result (Makes (λ k. peeks turn.old.at target (question_of question) k.who
-            (import_of target k.imports).boot size) self.now self.now turn.old turn.new) }
+        ensures makes { OnOk result (Makes (λ k. peeks turn.old.at target.0 (question_of question) k.who
+            (import_of target.0 k.imports).boot size) self.now self.now turn.old turn.new) }
     {
         self.note_peek(turn, target, question.cookie, size)?;
         let stamp = turn.at().stamp;
         turn.send(Post {
-            to: Node::Target(target),
+            to: Node::Target(target.0),
             message: Message::Size(SizeReport {
                 who: self.who,
                 boot: self.boot_known(target),
@@ -82,15 +82,15 @@ impl Client {
     fn note_peek(
         &self,
         turn: &mut Turn,
-        target: u16,
+        target: TargetId,
         cookie: Cookie,
         size: Option<u64>,
     ) -> Result<(), Memory>
-        ensures makes { OnOk result (Makes (λ k. peeked target cookie size) self.now self.now turn.old turn.new) }
+        ensures makes { OnOk result (Makes (λ k. peeked target.0 cookie size) self.now self.now turn.old turn.new) }
     {
         match size {
             Some(size) => turn.note(Entry::Peek {
-                target: TargetId(target),
+                target,
                 cookie,
                 size,
             }),

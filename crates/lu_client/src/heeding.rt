@@ -24,14 +24,19 @@ impl Client {
         ensures makes { OnOk result (Makes (comes_by turn.old.at (Target from.0) message.now)
             self.old self.new turn.old turn.new) }
     {
-        self.heed_target(turn, from.0, message)
+        self.heed_target(turn, from, message)
     }
 
-    /// The same, of the target of this number. A message that targets don't send is only taken.
-    fn heed_target(&mut self, turn: &mut Turn, target: u16, message: &Message) -> Result<(), Memory>
-        requires target { target < length self.old.client.imports }
-        requires may { may_from target message.now self.old.client ≡ true }
-        ensures makes { OnOk result (Makes (comes_from turn.old.at target message.now)
+    /// The same of a target of the run. A message that targets don't send is only taken.
+    fn heed_target(
+        &mut self,
+        turn: &mut Turn,
+        target: TargetId,
+        message: &Message,
+    ) -> Result<(), Memory>
+        requires target { target.0 < length self.old.client.imports }
+        requires may { may_from target.0 message.now self.old.client ≡ true }
+        ensures makes { OnOk result (Makes (comes_from turn.old.at target.0 message.now)
             self.old self.new turn.old turn.new) }
     {
         match message {

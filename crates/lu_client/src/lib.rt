@@ -8,7 +8,6 @@ mod begins;
 mod callbacks;
 mod client;
 mod evictions;
-mod faults;
 mod glimpses;
 mod heeding;
 mod locks;
@@ -23,5 +22,4 @@ mod steps;
 mod ticking;
 
 pub use client::Client;
-pub use faults::ClientFault;
 pub use ranges::is_in_range;

@@ -16,7 +16,7 @@ ghost use Rattle.lu_client.specs.Clients.{Makes};
 ghost use Rattle.lu_client.specs.Visits.{TrimsOne, must_write_in, back_row, gives_row, boot_served};
 
 use super::client::Client;
-use lu_base::{Ask, Extent, Lock, Memory, Mode, Node, Policy};
+use lu_base::{Ask, Extent, Lock, Memory, Mode, Node, Policy, TargetId};
 use lu_held::HeldLock;
 use lu_msg::{Message, Post};
 use lu_trace::{Entry, Turn};
@@ -150,8 +150,7 @@ impl Client {
         let Some(back) = self.store.take_flush_under(held)? else {
             return Ok(());
         };
-        let target = back.target.0;
-        self.queue(target, None, back.operation())
+        self.queue(back.target, None, back.operation())
     }
 
     // ---- giving up
@@ -163,17 +162,17 @@ impl Client {
         if !is_called(held) {
             return Ok(());
         }
-        let Some(boot) = self.boot_served(held.target.0) else {
+        let Some(boot) = self.boot_served(held.target) else {
             return Ok(());
         };
         self.give_back(turn, held, boot)
     }
 
     /// The boot that is known of a target, where it serves the life.
-    fn boot_served(&self, target: u16) -> Option<u32>
-        ensures boot { result ≡ boot_served (import_of target self.now.client.imports) }
+    fn boot_served(&self, target: TargetId) -> Option<u32>
+        ensures boot { result ≡ boot_served (import_of target.0 self.now.client.imports) }
     {
-        let Some(import) = self.imports.get(target as usize) else {
+        let Some(import) = self.imports.get(target.0 as usize) else {
             return None;
         };
         if import.serving() {

@@ -65,23 +65,28 @@ fn brought(alloc: Global, op: &Op, reply: &Reply) -> Result<Locks, Memory>
 }
 
 /// The call on a slot, if any, is told the reply to its request.
-fn tell(call: &mut Option<CallState>, target: u16, reply: &Reply) -> Result<(), Memory>
+fn tell(call: &mut Option<CallState>, target: TargetId, reply: &Reply) -> Result<(), Memory>
     ensures told { OnOk result ((slot : ℕ) (f : Flight) → f.slot ≡ Some slot
-        → call.new ≡ call_after slot call.old (Heard target f reply.now)) }
+        → call.new ≡ call_after slot call.old (Heard target.0 f reply.now)) }
 {
     match call {
-        Some(call) => call.heard(TargetId(target), reply),
+        Some(call) => call.heard(target, reply),
         None => Ok(()),
     }
 }
 
 impl Client {
     /// A reply comes from a target. After want of memory the client is of no use.
-    pub(crate) fn hear(&mut self, turn: &mut Turn, target: u16, reply: &Reply) -> Result<(), Memory>
-        requires target { target < length self.old.client.imports }
-        requires may { may_reply target reply.now self.old.client ≡ true }
-        ensures makes { OnOk result (Makes (λ k. replied target reply.now k
-            (is_present reply.now.who reply.now.boot target k))
+    pub(crate) fn hear(
+        &mut self,
+        turn: &mut Turn,
+        target: TargetId,
+        reply: &Reply,
+    ) -> Result<(), Memory>
+        requires target { target.0 < length self.old.client.imports }
+        requires may { may_reply target.0 reply.now self.old.client ≡ true }
+        ensures makes { OnOk result (Makes (λ k. replied target.0 reply.now k
+            (is_present reply.now.who reply.now.boot target.0 k))
             self.old self.new turn.old turn.new) }
     {
         let Some(asked) = self.find_asked(target, reply)? else {
@@ -95,15 +100,15 @@ impl Client {
 
     /// What the request in flight asks that a reply answers; none where the reply is of another life or boot, or no
     /// such request is in flight.
-    fn find_asked(&self, target: u16, reply: &Reply) -> Result<Option<Asked>, Memory>
-        requires target { target < length self.now.client.imports }
+    fn find_asked(&self, target: TargetId, reply: &Reply) -> Result<Option<Asked>, Memory>
+        requires target { target.0 < length self.now.client.imports }
         ensures asked { IfOk result (λ asked.
-            asked ≡ option_map asked_of (answered target reply.now self.now.client)) }
+            asked ≡ option_map asked_of (answered target.0 reply.now self.now.client)) }
     {
         if !self.is_present(target, reply.who, reply.boot) {
             return Ok(None);
         }
-        let import = &self.imports[target as usize];
+        let import = &self.imports[target.0 as usize];
         let Some(request) = import.find(reply.xid) else {
             return Ok(None);
         };
@@ -118,16 +123,16 @@ impl Client {
     fn hear_answer(
         &mut self,
         turn: &mut Turn,
-        target: u16,
+        target: TargetId,
         asked: &Asked,
         reply: &Reply,
     ) -> Result<(), Memory>
-        requires target { target < length self.old.client.imports }
-        requires may { may_reply target reply.now self.old.client ≡ true }
-        requires asked { option_map asked_of (answered target reply.now self.old.client) ≡ Some asked.now }
+        requires target { target.0 < length self.old.client.imports }
+        requires may { may_reply target.0 reply.now self.old.client ≡ true }
+        requires asked { option_map asked_of (answered target.0 reply.now self.old.client) ≡ Some asked.now }
         requires fits { answer_fits asked.now.op reply.now.answer ≡ true }
-        ensures makes { OnOk result (Makes (λ k. replied target reply.now k
-            (is_present reply.now.who reply.now.boot target k))
+        ensures makes { OnOk result (Makes (λ k. replied target.0 reply.now k
+            (is_present reply.now.who reply.now.boot target.0 k))
             self.old self.new turn.old turn.new) }
     {
         let locks = brought(self.alloc, &asked.op, reply)?;
@@ -139,19 +144,20 @@ impl Client {
     fn take_in_answer(
         &mut self,
         turn: &mut Turn,
-        target: u16,
+        target: TargetId,
         asked: &Asked,
         reply: &Reply,
         locks: &[Lock],
     ) -> Result<(), Memory>
-        requires target { target < length self.old.client.imports }
-        requires asked { option_map asked_of (answered target reply.now self.old.client) ≡ Some asked.now }
+        requires target { target.0 < length self.old.client.imports }
+        requires asked { option_map asked_of (answered target.0 reply.now self.old.client) ≡ Some asked.now }
         requires brought { locks.now ≡ brought asked.now.op reply.now }
-        requires new { are_new target locks.now self.old.client.store.held ≡ true }
+        requires new { are_new target.0 locks.now self.old.client.store.held ≡ true }
         requires short { IfSome (size_with reply.now.answer) (λ n. n ≤ 2 ^ 40) }
-        ensures makes { OnOk result ((f : Flight) → answered target reply.now self.old.client ≡ Some f
-            → Makes (λ k. Heard target f reply.now ∷ holds target (size_with reply.now.answer) reply.now.seen locks.now
-            ++ learns target asked.now.op reply.now.answer reply.now.locks) self.old self.new turn.old turn.new) }
+        ensures makes { OnOk result ((f : Flight) → answered target.0 reply.now self.old.client ≡ Some f
+            → Makes (λ k. Heard target.0 f reply.now
+            ∷ holds target.0 (size_with reply.now.answer) reply.now.seen locks.now
+            ++ learns target.0 asked.now.op reply.now.answer reply.now.locks) self.old self.new turn.old turn.new) }
     {
         self.take_reply(turn, target, asked.slot, reply)?;
         self.hold_all_brought(turn, target, size_with(&reply.answer), locks)?;
@@ -164,37 +170,37 @@ impl Client {
     fn take_reply(
         &mut self,
         turn: &mut Turn,
-        target: u16,
+        target: TargetId,
         slot: Option<u8>,
         reply: &Reply,
     ) -> Result<(), Memory>
-        requires target { target < length self.old.client.imports }
-        ensures taken { OnOk result ((f : Flight) → answered target reply.now self.old.client ≡ Some f → f.slot ≡ slot
-            → IsTaken target f reply.now self.old self.new turn.old turn.new) }
+        requires target { target.0 < length self.old.client.imports }
+        ensures taken { OnOk result ((f : Flight) → answered target.0 reply.now self.old.client ≡ Some f
+            → f.slot ≡ slot → IsTaken target.0 f reply.now self.old self.new turn.old turn.new) }
     {
         self.end_request(target, reply)?;
         turn.note(Entry::Heard {
-            target: TargetId(target),
+            target,
             xid: reply.xid,
         })?;
         self.tell_call(target, slot, reply)
     }
 
     /// The request that a reply answers isn't in flight any more.
-    fn end_request(&mut self, target: u16, reply: &Reply) -> Result<(), Memory>
-        requires target { target < length self.old.client.imports }
-        ensures ended { OnOk result ((f : Flight) → answered target reply.now self.old.client ≡ Some f
-            → self.new ≡ with_imports (imports_after self.old.client.imports (Heard target f reply.now)) self.old) }
+    fn end_request(&mut self, target: TargetId, reply: &Reply) -> Result<(), Memory>
+        requires target { target.0 < length self.old.client.imports }
+        ensures ended { OnOk result ((f : Flight) → answered target.0 reply.now self.old.client ≡ Some f
+            → self.new ≡ with_imports (imports_after self.old.client.imports (Heard target.0 f reply.now)) self.old) }
     {
-        let import = &mut self.imports[target as usize];
+        let import = &mut self.imports[target.0 as usize];
         import.hear(reply)?;
         Ok(())
     }
 
     /// The call, if any, of a request that was answered is told the reply.
-    fn tell_call(&mut self, target: u16, slot: Option<u8>, reply: &Reply) -> Result<(), Memory>
+    fn tell_call(&mut self, target: TargetId, slot: Option<u8>, reply: &Reply) -> Result<(), Memory>
         ensures told { OnOk result ((f : Flight) → f.slot ≡ slot
-            → self.new ≡ with_calls (calls_after self.old.client.calls (Heard target f reply.now)) self.old) }
+            → self.new ≡ with_calls (calls_after self.old.client.calls (Heard target.0 f reply.now)) self.old) }
     {
         let Some(slot) = slot else {
             return Ok(());
@@ -211,14 +217,14 @@ impl Client {
     fn hold_all_brought(
         &mut self,
         turn: &mut Turn,
-        target: u16,
+        target: TargetId,
         size: Option<u64>,
         locks: &[Lock],
     ) -> Result<(), Memory>
-        requires new { are_new target locks.now self.old.client.store.held ≡ true }
+        requires new { are_new target.0 locks.now self.old.client.store.held ≡ true }
         requires short { IfSome size (λ n. n ≤ 2 ^ 40) }
         ensures held { OnOk result ((seen : List ℕ)
-            → Stores (holds target size seen locks.now) self.old self.new turn.old turn.new) }
+            → Stores (holds target.0 size seen locks.now) self.old self.new turn.old turn.new) }
     {
         for lock in locks {
             self.hold_brought(turn, target, size, lock)?;
@@ -230,16 +236,15 @@ impl Client {
     fn hold_brought(
         &mut self,
         turn: &mut Turn,
-        target: u16,
+        target: TargetId,
         size: Option<u64>,
         lock: &Lock,
     ) -> Result<(), Memory>
-        requires absent { is_held (named (record { 0 = target }) lock.now.cookie) self.old.client.store.held ≡ false }
+        requires absent { is_held (named target lock.now.cookie) self.old.client.store.held ≡ false }
         requires short { IfSome size (λ n. n ≤ 2 ^ 40) }
         ensures held { OnOk result ((seen : List ℕ)
-            → Stores (Hold target lock.now false size seen ∷ []) self.old self.new turn.old turn.new) }
+            → Stores (Hold target.0 lock.now false size seen ∷ []) self.old self.new turn.old turn.new) }
     {
-        let target = TargetId(target);
         self.store.hold(target, lock, false, size)?;
         turn.note(Entry::Hold {
             target,
@@ -248,13 +253,14 @@ impl Client {
     }
 
     /// What an answer told is known under the locks that came with it.
-    fn learn_answer(&mut self, target: u16, op: &Op, reply: &Reply) -> Result<(), Memory>
+    fn learn_answer(&mut self, target: TargetId, op: &Op, reply: &Reply) -> Result<(), Memory>
         ensures learned { OnOk result ((turn : Making)
-            → Stores (learns target op.now reply.now.answer reply.now.locks) self.old self.new turn turn) }
+            → Stores (learns target.0 op.now reply.now.answer reply.now.locks) self.old self.new turn turn) }
     {
         if reply.locks.is_empty() {
             return Ok(());
         }
-        self.store.learn(TargetId(target), op, &reply.answer, reply.locks.as_slice())
+        self.store
+            .learn(target, op, &reply.answer, reply.locks.as_slice())
     }
 }

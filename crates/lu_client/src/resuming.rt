@@ -23,14 +23,14 @@ impl Client {
     pub(crate) fn resume(
         &mut self,
         turn: &mut Turn,
-        target: u16,
+        target: TargetId,
         who: Who,
         boot: u32,
         committed: Txn,
     ) -> Result<(), Memory>
-        requires target { target < length self.old.client.imports }
-        ensures makes { OnOk result (Makes (λ k. ready_heard target boot committed.0 k (is_present who boot target k))
-            self.old self.new turn.old turn.new) }
+        requires target { target.0 < length self.old.client.imports }
+        ensures makes { OnOk result (Makes (λ k. ready_heard target.0 boot committed.0 k
+            (is_present who boot target.0 k)) self.old self.new turn.old turn.new) }
     {
         if !self.is_present(target, who, boot) {
             return Ok(());
@@ -43,20 +43,20 @@ impl Client {
 
     /// The target serves the life from now on: the requests in flight, as they are sent again. After want of memory
     /// the client is of no use.
-    fn hear_ready(&mut self, target: u16, boot: u32, committed: Txn) -> Result<Sends, Memory>
-        requires target { target < length self.old.client.imports }
-        requires known { boot ≡ (import_of target self.old.client.imports).boot }
-        ensures served { IfOk result (IsServed target boot committed.0 self.old self.new) }
+    fn hear_ready(&mut self, target: TargetId, boot: u32, committed: Txn) -> Result<Sends, Memory>
+        requires target { target.0 < length self.old.client.imports }
+        requires known { boot ≡ (import_of target.0 self.old.client.imports).boot }
+        ensures served { IfOk result (IsServed target.0 boot committed.0 self.old self.new) }
     {
-        let import = &mut self.imports[target as usize];
+        let import = &mut self.imports[target.0 as usize];
         import.ready(boot, committed)
     }
 
     // ---- asks that were forgotten
 
     /// Each call whose ask was forgotten there makes it again.
-    fn look_for_locks(&mut self, target: u16)
-        ensures makes { (turn : Making) → Makes (λ k. on_calls (looks_stage target) 0 k.calls)
+    fn look_for_locks(&mut self, target: TargetId)
+        ensures makes { (turn : Making) → Makes (λ k. on_calls (looks_stage target.0) 0 k.calls)
             self.old self.new turn turn }
     {
         for slot in 0..self.slots() {
@@ -65,12 +65,12 @@ impl Client {
     }
 
     /// The same of the call on one slot.
-    fn look_for_lock(&mut self, target: u16, slot: usize)
+    fn look_for_lock(&mut self, target: TargetId, slot: usize)
         requires slot { slot < length self.old.client.calls }
-        ensures makes { (turn : Making) → Makes (looks_one target slot) self.old self.new turn turn }
+        ensures makes { (turn : Making) → Makes (looks_one target.0 slot) self.old self.new turn turn }
     {
         if let Some(call) = &mut self.calls[slot] {
-            call.ask_again(TargetId(target));
+            call.ask_again(target);
         }
     }
 

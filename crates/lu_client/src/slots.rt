@@ -165,8 +165,8 @@ impl Client {
     {
         match next {
             Next::Waits => Ok(()),
-            Next::Asks(target, op) => self.queue(target.0, Some(slot), op),
-            Next::WritesBack(target, op) => self.queue(target.0, None, op),
+            Next::Asks(target, op) => self.queue(target, Some(slot), op),
+            Next::WritesBack(target, op) => self.queue(target, None, op),
             Next::Told {
                 at,
                 answer,

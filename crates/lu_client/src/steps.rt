@@ -1,51 +1,52 @@
 //! A client's turns.
 
-ghost use Rattle.std.specs.Prelude.{◌≡◌, ◌<◌, ◌↔◌, [], ◌∷◌, true, false, Err, None, IfOk, OnOk, OnErr, IsErr, is_some};
+ghost use Rattle.std.specs.Prelude.{◌≡◌, ◌<◌, [], ◌∷◌, true, false, None, IfOk, OnOk, OnErr, IsErr, is_some};
 ghost use Rattle.lu_base.specs.declared.ids.Node.TheVariants.{Target};
 ghost use Rattle.lu_call.specs.Ranges.{IsCall};
 ghost use Rattle.lu_spec_client.specs.Calls.{call_on};
+ghost use Rattle.lu_spec_client.specs.Starts.{with_stripes};
 ghost use Rattle.lu_spec_client.specs.Rows.{rests, Begins, Comes, Ticks, Dies};
 ghost use Rattle.lu_msg.specs.Limits.{slot_count};
+ghost use Rattle.lu_spec_entries.specs.Given.{step_of};
 ghost use Rattle.lu_spec_entries.specs.Words.{Busy as BusyLine};
-ghost use Rattle.lu_client.specs.Clients.{Makes};
+ghost use Rattle.lu_client.specs.Clients.{turn_of, Makes};
 ghost use Rattle.lu_client.specs.Comings.{may_come};
 ghost use Rattle.lu_client.specs.Numbers.{AreCounted, HasNumbers};
 ghost use Rattle.lu_client.specs.Stepping.{row_at, step_at, stepped};
 
 use super::client::Client;
-use super::faults::ClientFault;
 use lu_base::{Memory, Stamp, TargetId};
+use lu_call::with_stripes;
 use lu_msg::{Call, Message};
 use lu_trace::{Entry, Step, Turn};
 
 impl Client {
-    /// A call begins on this slot, 0 to 3. Then each call goes as far as it can, the held locks are gone through, and what
-    /// has room is sent. `Busy` where the slot has a call that isn't told; the client is then as before, and its turn is the
-    /// line that says so, which whoever plays it writes. Fewer than 2^63 requests were sent to each target before.
-    pub fn begin(&mut self, stamp: Stamp, slot: u8, call: Call) -> Result<Step, ClientFault>
+    /// A call begins on this slot, 0 to 3; a `create` that doesn't say its stripes begins with those of a new file that is
+    /// given no numbers. Then each call goes as far as it can, the held locks are gone through, and what has room is sent.
+    /// Where the slot has a call that isn't told, the turn is the line that says so, and the client is then as before. Fewer
+    /// than 2^63 requests were sent to each target before.
+    pub fn call(&mut self, stamp: Stamp, slot: u8, call: Call) -> Result<Step, Memory>
         requires slot { slot < slot_count }
         requires range { IsCall call }
         requires numbers { self.old.spent ≡ false → HasNumbers self.old.client.imports }
-        ensures step { IfOk result (λ step. step ≡ step_at stamp (Begins slot call) self.old) }
-        ensures after { OnOk result (self.new ≡ stepped stamp (Begins slot call) self.old) }
-        ensures busy { result ≡ Err ClientFault.Busy
-            ↔ ((self.old.spent ≡ false) × (is_some (call_on slot self.old.client.calls) ≡ true)) }
-        ensures line { result ≡ Err ClientFault.Busy → row_at stamp (Begins slot call) self.old ≡ BusyLine slot ∷ [] }
-        ensures kept { result ≡ Err ClientFault.Busy → self.new ≡ self.old }
-        ensures still { result ≡ Err ClientFault.Busy → self.new ≡ stepped stamp (Begins slot call) self.old }
-        ensures spent { result ≡ Err ClientFault.Memory → self.new.spent ≡ true }
-        ensures again { self.old.spent ≡ true → result ≡ Err ClientFault.Memory }
+        ensures step { IfOk result (λ step. step ≡ step_at stamp (Begins slot (with_stripes call)) self.old) }
+        ensures after { OnOk result (self.new ≡ stepped stamp (Begins slot (with_stripes call)) self.old) }
+        ensures busy { is_some (call_on slot self.old.client.calls) ≡ true
+            → row_at stamp (Begins slot (with_stripes call)) self.old ≡ BusyLine slot ∷ [] }
+        ensures kept { is_some (call_on slot self.old.client.calls) ≡ true → OnOk result (self.new ≡ self.old) }
+        ensures spent { OnErr result (self.new.spent ≡ true) }
+        ensures again { self.old.spent ≡ true → IsErr result }
         ensures counted { OnOk result (AreCounted self.old.client.imports self.new.client.imports) }
     {
         if self.spent {
-            return Err(ClientFault::Memory);
+            return Err(Memory);
         }
         if self.has_call(slot) {
-            return Err(ClientFault::Busy);
+            let busy = self.make_busy_turn(stamp, slot);
+            return self.spend(busy);
         }
         let begun = self.make_call_turn(stamp, slot, call);
-        let step = self.spend(begun)?;
-        Ok(step)
+        self.spend(begun)
     }
 
     /// A message of a target comes, whose number the client doesn't know: it is 0 in the line. What it brings about is done;
@@ -113,13 +114,23 @@ impl Client {
         requires free { call_on slot self.old.client.calls ≡ None }
         requires range { IsCall call }
         requires numbers { HasNumbers self.old.client.imports }
-        ensures step { IfOk result (λ step. step ≡ step_at stamp (Begins slot call) self.old) }
-        ensures after { OnOk result (self.new ≡ stepped stamp (Begins slot call) self.old) }
+        ensures step { IfOk result (λ step. step ≡ step_at stamp (Begins slot (with_stripes call)) self.old) }
+        ensures after { OnOk result (self.new ≡ stepped stamp (Begins slot (with_stripes call)) self.old) }
         ensures counted { OnOk result (AreCounted self.old.client.imports self.new.client.imports) }
     {
+        let call = with_stripes(call);
         let mut turn = self.turn(stamp);
         self.begin_call(&mut turn, slot, call)?;
         self.rest(&mut turn)?;
+        Ok(turn.into_step())
+    }
+
+    /// The turn in which a slot is busy.
+    fn make_busy_turn(&self, stamp: Stamp, slot: u8) -> Result<Step, Memory>
+        ensures step { IfOk result (λ step. step ≡ step_of (turn_of stamp self.now) (BusyLine slot ∷ [])) }
+    {
+        let mut turn = self.turn(stamp);
+        turn.note(Entry::Busy(slot))?;
         Ok(turn.into_step())
     }
 

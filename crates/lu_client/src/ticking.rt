@@ -14,7 +14,7 @@ ghost use Rattle.lu_client.specs.Clients.{Makes};
 
 use super::client::Client;
 use super::posting::send_posts;
-use lu_base::{Memory, Node};
+use lu_base::{Memory, Node, TargetId};
 use lu_held::LockName;
 use lu_msg::{Message, Post, Sends};
 use lu_trace::Turn;
@@ -25,15 +25,15 @@ impl Client {
         ensures makes { OnOk result (Makes (λ k. ticks 0 k.imports k) self.old self.new turn.old turn.new) }
     {
         for target in 0..self.targets() {
-            self.remind(turn, target)?;
+            self.remind(turn, TargetId(target))?;
         }
         Ok(())
     }
 
     /// Time goes on at one target.
-    fn remind(&mut self, turn: &mut Turn, target: u16) -> Result<(), Memory>
-        requires target { target < length self.old.client.imports }
-        ensures makes { OnOk result (Makes (ticks_one target) self.old self.new turn.old turn.new) }
+    fn remind(&mut self, turn: &mut Turn, target: TargetId) -> Result<(), Memory>
+        requires target { target.0 < length self.old.client.imports }
+        ensures makes { OnOk result (Makes (ticks_one target.0) self.old self.new turn.old turn.new) }
     {
         if self.is_served_by(target) {
             return self.ask_again(turn, target);
@@ -42,19 +42,19 @@ impl Client {
     }
 
     /// Whether a target serves the life.
-    fn is_served_by(&self, target: u16) -> bool
-        requires target { target < length self.now.client.imports }
-        ensures serving { result ≡ is_serving (import_of target self.now.client.imports).standing }
+    fn is_served_by(&self, target: TargetId) -> bool
+        requires target { target.0 < length self.now.client.imports }
+        ensures serving { result ≡ is_serving (import_of target.0 self.now.client.imports).standing }
     {
-        self.imports[target as usize].serving()
+        self.imports[target.0 as usize].serving()
     }
 
     /// A target that serves the life is sent again what is in flight there, and asked where the locks are that calls
     /// wait for.
-    fn ask_again(&self, turn: &mut Turn, target: u16) -> Result<(), Memory>
-        requires target { target < length self.now.client.imports }
-        requires serving { is_serving (import_of target self.now.client.imports).standing ≡ true }
-        ensures makes { OnOk result (Makes (ticks_one target) self.now self.now turn.old turn.new) }
+    fn ask_again(&self, turn: &mut Turn, target: TargetId) -> Result<(), Memory>
+        requires target { target.0 < length self.now.client.imports }
+        requires serving { is_serving (import_of target.0 self.now.client.imports).standing ≡ true }
+        ensures makes { OnOk result (Makes (ticks_one target.0) self.now self.now turn.old turn.new) }
     {
         let again = self.requests_again(target)?;
         send_posts(turn, again)?;
@@ -62,20 +62,21 @@ impl Client {
     }
 
     /// The requests that are in flight at a target, as they are sent again.
-    fn requests_again(&self, target: u16) -> Result<Sends, Memory>
-        requires target { target < length self.now.client.imports }
+    fn requests_again(&self, target: TargetId) -> Result<Sends, Memory>
+        requires target { target.0 < length self.now.client.imports }
         ensures again { IfOk result (λ again. posted again ≡ resends self.now.client.who
-            (import_of target self.now.client.imports).boot target (import_of target self.now.client.imports).flights) }
+            (import_of target.0 self.now.client.imports).boot target.0
+            (import_of target.0 self.now.client.imports).flights) }
     {
-        self.imports[target as usize].again()
+        self.imports[target.0 as usize].again()
     }
 
     // ---- locks that calls wait for
 
     /// A target is asked where each lock of it is that a call waits for.
-    fn ask_where(&self, turn: &mut Turn, target: u16) -> Result<(), Memory>
-        requires target { target < length self.now.client.imports }
-        ensures makes { OnOk result (Makes (wheres_left target 0) self.now self.now turn.old turn.new) }
+    fn ask_where(&self, turn: &mut Turn, target: TargetId) -> Result<(), Memory>
+        requires target { target.0 < length self.now.client.imports }
+        ensures makes { OnOk result (Makes (wheres_left target.0 0) self.now self.now turn.old turn.new) }
     {
         for slot in 0..self.slots() {
             self.ask_where_of(turn, target, slot)?;
@@ -84,14 +85,14 @@ impl Client {
     }
 
     /// The same of the lock that the call on one slot waits for.
-    fn ask_where_of(&self, turn: &mut Turn, target: u16, slot: usize) -> Result<(), Memory>
-        requires target { target < length self.now.client.imports }
+    fn ask_where_of(&self, turn: &mut Turn, target: TargetId, slot: usize) -> Result<(), Memory>
+        requires target { target.0 < length self.now.client.imports }
         requires slot { slot < length self.now.client.calls }
-        ensures makes { OnOk result (Makes (wheres_one target slot) self.now self.now turn.old turn.new) }
+        ensures makes { OnOk result (Makes (wheres_one target.0 slot) self.now self.now turn.old turn.new) }
     {
         match self.awaited_lock(slot) {
-            Some(lock) if lock.target.0 == target => turn.send(Post {
-                to: Node::Target(target),
+            Some(lock) if lock.target.0 == target.0 => turn.send(Post {
+                to: Node::Target(target.0),
                 message: Message::Where {
                     who: self.who,
                     boot: self.boot_known(target),

@@ -160,7 +160,7 @@ impl<D: Disk + Drop> Player<D> {
             return Ok(Progress::Full);
         }
         let at = self.next_turn(Node::Target(target));
-        match self.nodes.command(at.stamp, target, command) {
+        match self.nodes.command(at.stamp, TargetId(target), command) {
             Ok(step) => {
                 self.wire.add(at, step)?;
                 Ok(Progress::Made)

@@ -24,7 +24,6 @@ client_stays head turns past c seat at es other shows =
       client = shows.client ∙ sym (client_other (limits_of head) c past at es other);
       limits = shows.limits;
       unspent = shows.unspent;
-      number = shows.number;
       who = shows.who;
       asked = λ t. omega (arith, shows.asked t);
       dead = shows.dead ∙ sym (dead_other c past at es other);

@@ -19,7 +19,6 @@ pub record ShowsClient (head : Head) (turns : ℕ) (past : List Line) (c : ℕ) 
   pub client : seat.client.client ≡ client_of head c past
   pub limits : seat.client.limits ≡ limits_of head
   pub unspent : seat.client.spent ≡ false
-  pub number : seat.number ≡ c
   pub who : seat.client.client.who.client ≡ c
   pub asked : HasAsked turns seat.client.client.imports
   pub dead : seat.dead ≡ is_dead c past

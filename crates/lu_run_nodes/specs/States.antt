@@ -7,9 +7,8 @@ use Rattle.lu_service.specs.declared.services.Kind.{Kind}
 use Rattle.lu_client.specs.Clients.{ClientState}
 use Rattle.lu_target.specs.Targets.{TargetState}
 
--- a client, its number and whether it is dead
+-- a client, and whether it is dead
 pub record ClientSeat : Type 0 where
-  pub number : ℕ
   pub client : ClientState
   pub dead : Bool
 

@@ -1,11 +1,9 @@
 //! A client of a run, living or dead.
 
-ghost use Rattle.std.specs.Prelude.{◌≡◌, ◌≢◌, ◌<◌, ℕ, false, [], ◌∷◌, Err, IfOk};
+ghost use Rattle.std.specs.Prelude.{◌≡◌, ◌≢◌, ◌<◌, ℕ, false, [], Err, IfOk};
 ghost use Rattle.lu_base.specs.declared.ids.Node.TheVariants as node;
 ghost use Rattle.lu_client.specs.Ranges.{IsCall};
 ghost use Rattle.lu_msg.specs.Limits.{slot_count};
-ghost use Rattle.lu_spec_entries.specs.Given.{step_of};
-ghost use Rattle.lu_spec_entries.specs.Words.{Busy as BusyLine};
 ghost use Rattle.lu_spec_client.specs.Rows.{Begins, Comes, Ticks, Dies};
 ghost use Rattle.lu_client.specs.Comings.{may_come};
 ghost use Rattle.lu_trace.specs.declared.traces.Step.{Step as StepOf};
@@ -13,14 +11,14 @@ ghost use Rattle.lu_spec_run.specs.Heads.{IsHead};
 ghost use Rattle.lu_spec_run.specs.Scenarios.{head_of, with_stripes};
 ghost use Rattle.lu_run_nodes.specs.declared.faults.TurnFault.TheVariants as fault;
 ghost use Rattle.lu_run_nodes.specs.Shown.{ShowsClient, IsClientShown};
-ghost use Rattle.lu_run_nodes.specs.Turns.{turn_at, ClientMakes};
+ghost use Rattle.lu_run_nodes.specs.Turns.{ClientMakes};
 
 use super::faults::TurnFault;
-use lu_base::{At, Duplicate, Memory, Node, Stamp, TargetId};
-use lu_client::{Client, ClientFault};
+use lu_base::{Duplicate, Memory, Node, Stamp, TargetId};
+use lu_client::Client;
 use lu_msg::{Call, Message};
 use lu_scene::Head;
-use lu_trace::{Entry, Step, Turn};
+use lu_trace::Step;
 use std::alloc::Global;
 use std::marker::Model;
 
@@ -28,7 +26,6 @@ use std::marker::Model;
 #[derive(Drop)]
 pub(crate) struct ClientSeat {
     alloc: Global,
-    number: u16,
     client: Client,
     dead: bool,
 }
@@ -39,7 +36,7 @@ impl Model for ClientSeat {
 
     ghost Value = { Seat };
 
-    ghost view = { λ s. record { number = s.number; client = s.client; dead = s.dead } };
+    ghost view = { λ s. record { client = s.client; dead = s.dead } };
 }
 
 impl ClientSeat {
@@ -58,7 +55,6 @@ impl ClientSeat {
         )?;
         Ok(ClientSeat {
             alloc,
-            number,
             client,
             dead: false,
         })
@@ -80,23 +76,7 @@ impl ClientSeat {
             (Begins slot (with_stripes call.now))
             stamp self.old self.new) }
     {
-        let call = with_stripes(call.copy(self.alloc)?);
-        match self.client.begin(stamp, slot, call) {
-            Ok(step) => Ok(step),
-            Err(ClientFault::Busy) => self.busy(stamp, slot),
-            Err(ClientFault::Memory) => Err(Memory),
-        }
-    }
-
-    /// The turn in which a slot is busy.
-    fn busy(&self, stamp: Stamp, slot: u8) -> Result<Step, Memory>
-        ensures step { IfOk result (λ step. step
-            ≡ step_of (turn_at stamp (node.Client self.now.number)) (BusyLine slot ∷ [])) }
-    {
-        let node = Node::Client(self.number);
-        let mut turn = Turn::new(self.alloc, At { stamp, node });
-        turn.note(Entry::Busy(slot))?;
-        Ok(turn.into_step())
+        self.client.call(stamp, slot, call.copy(self.alloc)?)
     }
 
     /// The turn in which a message comes. The client doesn't know the message's number.
@@ -139,21 +119,5 @@ impl ClientSeat {
         let step = self.client.die(stamp)?;
         self.dead = true;
         Ok(step)
-    }
-}
-
-/// A `create` that doesn't say its stripes has those that the language of scenarios gives it: of 1 MiB, one of them.
-fn with_stripes(call: Call) -> Call
-    ensures call { result ≡ with_stripes call }
-{
-    match call {
-        Call::Create {
-            path,
-            stripes: None,
-        } => Call::Create {
-            path,
-            stripes: Some((1_048_576, 1)),
-        },
-        other => other,
     }
 }

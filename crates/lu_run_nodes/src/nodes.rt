@@ -24,7 +24,7 @@ use super::clients::ClientSeat;
 use super::faults::TurnFault;
 use super::fresh::Fresh;
 use super::targets::TargetSeat;
-use lu_base::{Memory, Node, Stamp};
+use lu_base::{Memory, Node, Stamp, TargetId};
 use lu_disk::Disk;
 use lu_mdt::Mdt;
 use lu_msg::{Call, Message};
@@ -76,7 +76,7 @@ impl<D: Disk + Drop> Nodes<D> {
     {
         match node {
             Node::Client(client) => self.is_dead(client),
-            Node::Target(target) => self.is_off(target),
+            Node::Target(target) => self.is_off(TargetId(target)),
         }
     }
 
@@ -91,10 +91,10 @@ impl<D: Disk + Drop> Nodes<D> {
     }
 
     /// Whether a target is down.
-    fn is_off(&self, target: u16) -> bool
-        ensures down { result ≡ is_down_in self.now (node.Target target) }
+    fn is_off(&self, target: TargetId) -> bool
+        ensures down { result ≡ is_down_in self.now (node.Target target.0) }
     {
-        let Some(place) = target.checked_sub(1) else {
+        let Some(place) = target.0.checked_sub(1) else {
             return !self.names.is_up();
         };
         match self.objects.get(place as usize) {
@@ -147,20 +147,20 @@ impl<D: Disk + Drop> Nodes<D> {
     pub fn command(
         &mut self,
         stamp: Stamp,
-        target: u16,
+        target: TargetId,
         command: Command,
     ) -> Result<Step, TurnFault>
         requires shown { AreShown self.old }
-        requires one { target ≤ length self.old.objects }
-        ensures made { IfOk result (NodesMake (node.Target target) (event_of command) (event_of command)
+        requires one { target.0 ≤ length self.old.objects }
+        ensures made { IfOk result (NodesMake (node.Target target.0) (event_of command) (event_of command)
             stamp self.old self.new) }
         ensures failed { (step : StepOf) → result ≡ Err (fault.Disk step)
-            → NodesFail target (event_of command) stamp self.old self.new step }
+            → NodesFail target.0 (event_of command) stamp self.old self.new step }
         ensures foreseen { result ≡ Err fault.Unforeseen → command ≡ Command.Tick
             → (head : HeadOf) (turns : ℕ) (past : List Line)
-            → ShowsNodes head turns past self.old → ¬ IsTickForeseen head past stamp target }
+            → ShowsNodes head turns past self.old → ¬ IsTickForeseen head past stamp target.0 }
     {
-        match target.checked_sub(1) {
+        match target.0.checked_sub(1) {
             None => obey(&mut self.names, stamp, command),
             Some(place) => obey(&mut self.objects[place as usize], stamp, command),
         }
@@ -183,7 +183,7 @@ impl<D: Disk + Drop> Nodes<D> {
     {
         match sent.to {
             Node::Client(client) => self.reach(stamp, client, sent.from, &sent.message),
-            Node::Target(target) => self.serve(stamp, target, &sent.message),
+            Node::Target(target) => self.serve(stamp, TargetId(target), &sent.message),
         }
     }
 
@@ -211,18 +211,23 @@ impl<D: Disk + Drop> Nodes<D> {
     }
 
     /// The turn of a target to which a message comes.
-    fn serve(&mut self, stamp: Stamp, target: u16, message: &Message) -> Result<Step, TurnFault>
+    fn serve(
+        &mut self,
+        stamp: Stamp,
+        target: TargetId,
+        message: &Message,
+    ) -> Result<Step, TurnFault>
         requires shown { AreShown self.old }
-        ensures made { IfOk result (λ step. (n : ℕ) (from : NodeOf) → NodesMake (node.Target target)
+        ensures made { IfOk result (λ step. (n : ℕ) (from : NodeOf) → NodesMake (node.Target target.0)
             (Comes 0 from message.now) (Comes n from message.now) stamp self.old self.new step) }
         ensures failed { (step : StepOf) → result ≡ Err (fault.Disk step) → (from : NodeOf)
-            → NodesFail target (Comes 0 from message.now) stamp self.old self.new step }
+            → NodesFail target.0 (Comes 0 from message.now) stamp self.old self.new step }
         ensures foreseen { result ≡ Err fault.Unforeseen
             → (head : HeadOf) (turns : ℕ) (past : List Line) (from : NodeOf)
-            → ShowsNodes head turns past self.old → target ≤ head.osts
-            → ¬ TakesSurely head past stamp from message.now target }
+            → ShowsNodes head turns past self.old → target.0 ≤ head.osts
+            → ¬ TakesSurely head past stamp from message.now target.0 }
     {
-        let Some(place) = target.checked_sub(1) else {
+        let Some(place) = target.0.checked_sub(1) else {
             return self.names.deliver(stamp, message);
         };
         let Some(seat) = self.objects.get_mut(place as usize) else {

@@ -37,7 +37,7 @@ impl<D: Disk + Drop> Nodes<D> {
             × (length taken ≡ head.now.osts + 1)) }
     {
         let clients = first_clients(alloc, head)?;
-        let names = seat(alloc, head, 0, disks);
+        let names = seat(alloc, head, TargetId(0), disks);
         let objects = first_objects(alloc, head, disks)?;
         Ok(Nodes {
             alloc,
@@ -60,14 +60,14 @@ impl<D: Disk + Drop> Nodes<D> {
     {
         let lives = match first_lives(self.alloc, self.clients.len()) {
             Ok(lives) => lives,
-            Err(error) => return Err(stopped(0, TurnFault::from(error))),
+            Err(error) => return Err(stopped(TargetId(0), TurnFault::from(error))),
         };
         if let Err(fault) = self.names.start(lives.as_slice(), FIRST) {
-            return Err(stopped(0, fault));
+            return Err(stopped(TargetId(0), fault));
         }
         for place in 0..self.objects.len() {
             if let Err(fault) = self.objects[place].start(lives.as_slice(), FIRST) {
-                return Err(stopped(place as u16 + 1, fault));
+                return Err(stopped(TargetId(place as u16 + 1), fault));
             }
         }
         Ok(())
@@ -75,13 +75,10 @@ impl<D: Disk + Drop> Nodes<D> {
 }
 
 /// A target that didn't start.
-fn stopped(target: u16, fault: TurnFault) -> StartFault
-    ensures fault { result ≡ record { target = record { 0 = target }; fault = fault } }
+fn stopped(target: TargetId, fault: TurnFault) -> StartFault
+    ensures fault { result ≡ record { target = target; fault = fault } }
 {
-    StartFault {
-        target: TargetId(target),
-        fault,
-    }
+    StartFault { target, fault }
 }
 
 /// The clients before their first turns.
@@ -115,7 +112,7 @@ fn first_objects<D: Disk + Drop>(
 {
     let mut objects = Vec::new(alloc);
     for target in 1..head.osts + 1 {
-        objects.push(seat(alloc, head, target, disks))?;
+        objects.push(seat(alloc, head, TargetId(target), disks))?;
     }
     Ok(objects)
 }
@@ -124,19 +121,19 @@ fn first_objects<D: Disk + Drop>(
 fn seat<S: Fresh, D: Disk + Drop>(
     alloc: Global,
     head: &Head,
-    target: u16,
+    target: TargetId,
     disks: &mut Vec<D>,
 ) -> TargetSeat<S, D>
     requires head { IsHead (head_of head.now) }
     requires some { 0 < length disks.old.items }
     requires empty { All (λ d. D.batches d ≡ []) disks.old.items }
-    ensures unstarted { S.kind ≡ kind_of target → IsUnstarted (head_of head.now) target result }
+    ensures unstarted { S.kind ≡ kind_of target.0 → IsUnstarted (head_of head.now) target.0 result }
     ensures fewer { length disks.old.items ≡ length disks.new.items + 1 }
     ensures rest { (disk : D) × (disks.old.items ≡ disks.new.items ++ disk ∷ []) }
     ensures empty { All (λ d. D.batches d ≡ []) disks.new.items }
 {
     match disks.pop() {
-        Some(disk) => TargetSeat::new(alloc, TargetId(target), head.osts, head.expire, disk),
+        Some(disk) => TargetSeat::new(alloc, target, head.osts, head.expire, disk),
         None => unreachable!(),
     }
 }

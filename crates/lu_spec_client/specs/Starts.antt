@@ -113,6 +113,11 @@ starts_glimpse at slot r s (Some f) = glimpses at slot (wants_of f.layout f.fid 
 
 -- ---- a call that has asked nothing yet
 
+-- a `create` that gives no numbers begins with the defaults
+abbrev pub with_stripes : Call → Call
+with_stripes (call.Create p None) = call.Create p (Some (1048576, pos 1))
+with_stripes c = c
+
 -- what the calls that always ask the metadata target ask; `create` without numbers has the defaults
 abbrev pub names_op : Call → Option Op
 names_op (call.Mkdir p) = Some (op.Mkdir p)

@@ -1,13 +1,11 @@
 -- The run of a scenario: its lines are performed in order, all of them. A turn's stamp is the number of turns so far, from
 -- 1. What is left to do after each step is decided by the turns so far, the messages and the lines that are left.
 use Rattle.std.specs.Prelude.{◌≡◌, ℕ, zero, suc, ◌+◌, Bool, true, false, not, ◌||◌, nat_le, if◌then◌else◌, List, [], ◌∷◌, ◌++◌, length, map}
-use Rattle.std.specs.Prelude.{Option, Some, None, pos, nat_eq, option_map}
+use Rattle.std.specs.Prelude.{Option, Some, None, nat_eq, option_map}
 use Rattle.std.specs.List.{list_any}
 use Rattle.lu_base.specs.declared.ids.At.{At}
 use Rattle.lu_base.specs.declared.ids.Node.{Node}
 use Rattle.lu_base.specs.declared.ids.Node.TheVariants.{Client, Target}
-use Rattle.lu_msg.specs.declared.calls.Call.{Call as CallOf}
-use Rattle.lu_msg.specs.declared.calls.Call.TheVariants.{Create}
 use Rattle.lu_msg.specs.declared.messages.Message.{Message}
 use Rattle.lu_msg.specs.declared.messages.Post.{Post}
 use Rattle.lu_net.specs.declared.links.Posted.{Posted}
@@ -25,6 +23,7 @@ use Rattle.lu_spec_target.specs.Disks.{calls, row_start}
 use Rattle.lu_spec_target.specs.Rows as target
 use Rattle.lu_spec_client.specs.Calls.{is_dead}
 use Rattle.lu_spec_client.specs.Rows as client
+pub use Rattle.lu_spec_client.specs.Starts.{with_stripes}
 use Rattle.lu_spec_run.specs.Runs.{EventAt, Turn, lines_of, has_failed, target_of, row_at, row}
 
 -- the turns so far, the newest first; all messages so far, each spent (taken or lost) or not; and the lines left
@@ -102,11 +101,6 @@ start_fails disks from (suc more) = elim (first_failing (disks from) 0 2) [ Some
 abbrev pub start_turn : Option ℕ → List Turn
 start_turn None = []
 start_turn (Some t) = record { at = record { stamp = record { 0 = 1 }; node = Target t }; entries = row_start true } ∷ []
-
--- a `create` that gives no numbers begins with the defaults
-abbrev pub with_stripes : CallOf → CallOf
-with_stripes (Create path None) = Create path (Some (1048576, pos 1))
-with_stripes call = call
 
 -- ---- the lines
 

@@ -2,9 +2,7 @@
 //! another implementation made, where the numbers of the messages are 0.
 
 use super::clients::{Called, Meets, played};
-use super::faults::PlayFault;
 use super::said::{Answered, FIRST, SECOND, Said};
-use lu_client::ClientFault;
 use lu_msg::Errno;
 use std::test::Fail;
 
@@ -100,7 +98,14 @@ const TWICE: [(u64, Meets); 2] = [
     (2, Meets::Call(0, Called::Mkdir(b"b"))),
 ];
 
+const TWICE_TEXT: &[u8] = b"1 c0 begin 0 mkdir /a
+1 c0 send 0 t0 req c0.1 1 1 mkdir /a
+2 c0 busy 0
+";
+
 #[test]
-fn a_slot_has_one_call(rt: HostRuntime) {
-    assert!(rt; played(rt.alloc(), &TWICE).err() == Some(PlayFault::Client(ClientFault::Busy)));
+fn a_slot_has_one_call(rt: HostRuntime) -> Result<(), Fail> {
+    let out = played(rt.alloc(), &TWICE)?;
+    assert_eq!(rt; out.as_slice(), TWICE_TEXT);
+    Ok(())
 }

@@ -58,7 +58,7 @@ fn call(client: &mut Client, stamp: Stamp, slot: u8, call: Call) -> Result<Step,
     if slot >= 4 || !is_in_range(&call) {
         return Err(PlayFault::Misplaced);
     }
-    Ok(client.begin(stamp, slot, call)?)
+    Ok(client.call(stamp, slot, call)?)
 }
 
 /// A message of the metadata target comes, if it may.

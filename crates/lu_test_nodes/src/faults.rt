@@ -1,7 +1,6 @@
 //! Why a node isn't played to its end.
 
 use lu_base::Memory;
-use lu_client::ClientFault;
 use lu_target::{BootFault, StepFault};
 
 /// Why a node isn't played to its end.
@@ -13,7 +12,6 @@ pub enum PlayFault {
     Memory,
     Step(StepFault),
     Boot(BootFault),
-    Client(ClientFault),
 }
 
 impl From<Memory> for PlayFault {
@@ -25,11 +23,5 @@ impl From<Memory> for PlayFault {
 impl From<StepFault> for PlayFault {
     fn from(fault: StepFault) -> PlayFault {
         PlayFault::Step(fault)
-    }
-}
-
-impl From<ClientFault> for PlayFault {
-    fn from(fault: ClientFault) -> PlayFault {
-        PlayFault::Client(fault)
     }
 }

@@ -12,11 +12,11 @@ pub returns-in-Some : goal.returns-in-Some
 returns-in-Some c =
     record {
       makes = on_ok_weaker c.send.result
-          (λ added. where_asked c.args.target c.args.slot c.boot_known.result c.in-Some.lock c.args.self.now c.args.turn.now c.send.new.self
+          (λ added. where_asked c.args.target.0 c.args.slot c.boot_known.result c.in-Some.lock c.args.self.now c.args.turn.now c.send.new.self
           c.boot_known.ensures.boot c.if-lock-target.true
-          (c.in-Some.ensures.asks c.args.self.now.client.who (import_of c.args.target c.args.self.now.client.imports).boot c.args.target)
+          (c.in-Some.ensures.asks c.args.self.now.client.who (import_of c.args.target.0 c.args.self.now.client.imports).boot c.args.target.0)
           (added ∙ ap (λ (s : ClientState). with_post c.args.turn.now.at c.args.turn.now.step
-          (record { to = Target c.args.target; message = message.Where s.client.who c.boot_known.result c.in-Some.lock.cookie }))
+          (record { to = Target c.args.target.0; message = message.Where s.client.who c.boot_known.result c.in-Some.lock.cookie }))
           c.self.view_is)
           c.send.ensures.turn)
           c.send.ensures.added;

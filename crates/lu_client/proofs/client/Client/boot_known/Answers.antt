@@ -10,21 +10,21 @@ use Rattle.lu_client.proofs.client.Client.boot_known.Goals as goal
 pub returns-in-Some : goal.returns-in-Some
 returns-in-Some c =
     let imports : List ImportState = c.self.inside.imports.items in
-    let some : slice_get imports c.args.target ≡ Some c.in-Some.import.now =
-    subst (λ (is : List ImportState). slice_get is c.args.target ≡ Some c.in-Some.import.now) c.deref.ensures.value
-    (slice_get_read c.deref.result.now _ c.args.target c.in-Some.import.now refl c.in-Some.ensures.lookup.3.0
+    let some : slice_get imports c.args.target.0 ≡ Some c.in-Some.import.now =
+    subst (λ (is : List ImportState). slice_get is c.args.target.0 ≡ Some c.in-Some.import.now) c.deref.ensures.value
+    (slice_get_read c.deref.result.now _ c.args.target.0 c.in-Some.import.now refl c.in-Some.ensures.lookup.3.0
     c.in-Some.ensures.lookup.1) in
     record {
-      boot = c.boot.ensures.same ∙ sym (boot_of_some c.args.target imports c.in-Some.import.now some)
-          ∙ ap (λ (s : ClientState). (import_of c.args.target s.client.imports).boot) c.self.view_is;
+      boot = c.boot.ensures.same ∙ sym (boot_of_some c.args.target.0 imports c.in-Some.import.now some)
+          ∙ ap (λ (s : ClientState). (import_of c.args.target.0 s.client.imports).boot) c.self.view_is;
     }
 
 pub returns-in-None : goal.returns-in-None
 returns-in-None c =
     let imports : List ImportState = c.self.inside.imports.items in
-    let none : slice_get imports c.args.target ≡ None = subst (λ (is : List ImportState). slice_get is c.args.target ≡ None)
-    c.deref.ensures.value (slice_get_past c.deref.result.now c.args.target c.in-None.ensures.lookup.3) in
+    let none : slice_get imports c.args.target.0 ≡ None = subst (λ (is : List ImportState). slice_get is c.args.target.0 ≡ None)
+    c.deref.ensures.value (slice_get_past c.deref.result.now c.args.target.0 c.in-None.ensures.lookup.3) in
     record {
-      boot = sym (boot_of_none c.args.target imports none)
-          ∙ ap (λ (s : ClientState). (import_of c.args.target s.client.imports).boot) c.self.view_is;
+      boot = sym (boot_of_none c.args.target.0 imports none)
+          ∙ ap (λ (s : ClientState). (import_of c.args.target.0 s.client.imports).boot) c.self.view_is;
     }

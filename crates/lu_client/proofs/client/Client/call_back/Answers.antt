@@ -6,7 +6,7 @@ use Rattle.lu_client.proofs.client.Client.call_back.Goals as goal
 
 pub returns-then-mark_held : goal.returns-then-mark_held
 returns-then-mark_held c =
-    let name = named (record { 0 = c.args.target }) c.args.cookie in
+    let name = named c.args.target c.args.cookie in
     record {
       makes = block_marked name c.args.self.now c.mark_held.new.self c.args.who c.args.turn.now
           (sym c.is_life.ensures.life ∙ c.if-not-is_life.false) (sym c.mark_held.ensures.held ∙ c.if-mark_held.true)

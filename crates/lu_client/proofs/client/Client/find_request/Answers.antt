@@ -13,14 +13,14 @@ use Rattle.lu_client.proofs.client.Client.find_request.Goals as goal
 pub returns : goal.returns
 returns c =
     let imports : List ImportState = c.self.inside.imports.items in
-    let inside : c.args.target < length imports = import_inside imports c.args.self.now.client.imports
+    let inside : c.args.target.0 < length imports = import_inside imports c.args.self.now.client.imports
     (ap (λ (s : ClientState). s.client.imports) c.self.view_is) c.requires.target in
-    let item : c.index.result.now ≡ get_or imports c.args.target c.index.result.now = search rules in
-    let here : import_of c.args.target (imports_of imports) ≡ import_of_state c.index.result.now =
-    import_of_at c.args.target imports c.index.result.now inside ∙ ap import_of_state (sym item) in
+    let item : c.index.result.now ≡ get_or imports c.args.target.0 c.index.result.now = search rules in
+    let here : import_of c.args.target.0 (imports_of imports) ≡ import_of_state c.index.result.now =
+    import_of_at c.args.target.0 imports c.index.result.now inside ∙ ap import_of_state (sym item) in
     record {
       request = ap (option_map flight_of) c.find.ensures.request
           ∙ sym (found_is c.args.xid.0 c.index.result.now.in_flight)
           ∙ ap (λ (i : Import). find_flight c.args.xid.0 i.flights) (sym here)
-          ∙ ap (λ (s : ClientState). find_flight c.args.xid.0 (import_of c.args.target s.client.imports).flights) c.self.view_is;
+          ∙ ap (λ (s : ClientState). find_flight c.args.xid.0 (import_of c.args.target.0 s.client.imports).flights) c.self.view_is;
     }

@@ -21,9 +21,9 @@ returns c =
     let item : call ≡ get_or calls c.args.slot call = search rules in
     let there : call_on c.args.slot calls ≡ call = call_on_get c.args.slot calls call inside ∙ sym item in
     record {
-      forgets = λ making. subst (λ (s : ClientState). Makes (forgets_one c.args.target c.args.slot) s (with_call c.args.slot left old)
+      forgets = λ making. subst (λ (s : ClientState). Makes (forgets_one c.args.target.0 c.args.slot) s (with_call c.args.slot left old)
           making making) c.self.view_is
-          (ask_forgotten c.args.target c.args.slot old left inside
-          (ap (λ (o : Option Running). call_turn c.args.slot o (on_call (forgets_stage c.args.target) c.args.slot o)) there
+          (ask_forgotten c.args.target.0 c.args.slot old left inside
+          (ap (λ (o : Option Running). call_turn c.args.slot o (on_call (forgets_stage c.args.target.0) c.args.slot o)) there
           ∙ c.forget_ask.ensures.forgets c.args.slot) making);
     }

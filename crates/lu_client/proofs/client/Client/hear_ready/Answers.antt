@@ -8,23 +8,23 @@ use Rattle.lu_client.proofs.client.Client.hear_ready.Goals as goal
 pub invariant_of-self : goal.invariant_of-self
 invariant_of-self c =
     let imports : List ImportState = c.self.inside.imports.items in
-    let inside : c.args.target < length imports = import_inside imports c.args.self.now.client.imports
+    let inside : c.args.target.0 < length imports = import_inside imports c.args.self.now.client.imports
     (ap (λ (s : ClientState). s.client.imports) c.self.view_is) c.requires.target in
-    let item : c.index_mut-import.result.now ≡ get_or imports c.args.target c.index_mut-import.result.now = search rules in
-    ready_keeps _ _ _ _ c.self.inside.handles.items _ _ c.self.inside.spent c.args.target c.args.boot c.args.committed.0 imports
+    let item : c.index_mut-import.result.now ≡ get_or imports c.args.target.0 c.index_mut-import.result.now = search rules in
+    ready_keeps _ _ _ _ c.self.inside.handles.items _ _ c.self.inside.spent c.args.target.0 c.args.boot c.args.committed.0 imports
     c.index_mut-import.result.now c.ready.new.self c.self.invariant inside item
     c.ready.result c.ready.ensures.sound c.ready.ensures.ready c.ready.ensures.kept
 
 pub returns : goal.returns
 returns c =
     let imports : List ImportState = c.self.inside.imports.items in
-    let inside : c.args.target < length imports = import_inside imports c.args.self.now.client.imports
+    let inside : c.args.target.0 < length imports = import_inside imports c.args.self.now.client.imports
     (ap (λ (s : ClientState). s.client.imports) c.self.view_is) c.requires.target in
-    let item : c.index_mut-import.result.now ≡ get_or imports c.args.target c.index_mut-import.result.now = search rules in
+    let item : c.index_mut-import.result.now ≡ get_or imports c.args.target.0 c.index_mut-import.result.now = search rules in
     record {
       served = served_ok c.self.inside.osts c.self.inside.flight c.self.inside.dirty c.self.inside.who c.self.inside.handles.items
           c.self.inside.calls.items c.self.inside.store c.self.inside.spent
-          c.args.target c.args.boot c.args.committed.0 imports c.index_mut-import.result.now c.ready.new.self c.self.invariant inside item
+          c.args.target.0 c.args.boot c.args.committed.0 imports c.index_mut-import.result.now c.ready.new.self c.self.invariant inside item
           c.args.self.now c.self.view_is c.requires.known
           c.ready.result c.ready.ensures.ready c.ready.ensures.sends;
     }

@@ -17,9 +17,9 @@ returns c =
     c.self.inside.handles.items c.self.inside.calls.items c.self.inside.imports.items store c.self.inside.spent in
     record {
       held = on_ok_weaker c.note.result
-          (λ added seen. subst (λ (s : ClientState). Stores (Hold c.args.target c.args.lock.now false c.args.size seen ∷ []) s
+          (λ added seen. subst (λ (s : ClientState). Stores (Hold c.args.target.0 c.args.lock.now false c.args.size seen ∷ []) s
           (state c.hold.new.self) c.args.turn.now c.note.new.self) c.self.view_is
-          (held_one c.args.target c.args.size c.args.lock.now seen (state c.self.inside.store) (state c.hold.new.self) c.hold.new.self
+          (held_one c.args.target.0 c.args.size c.args.lock.now seen (state c.self.inside.store) (state c.hold.new.self) c.hold.new.self
           c.args.turn.now c.note.new.self refl (c.in_ok-hold.ensures.held seen) added c.note.ensures.turn))
           c.note.ensures.added;
     }

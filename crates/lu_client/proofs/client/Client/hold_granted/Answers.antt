@@ -16,7 +16,7 @@ returns-clause-held c =
     let old : ClientState = state c.self.inside.store in
     on_ok_weaker c.note.result
     (λ added seen. subst (λ (s : ClientState). state c.hold.new.self
-    ≡ with_store (stored_after (stored_of s) (Hold c.args.target c.args.came.now.lock c.args.came.now.marked (Some c.args.size) seen))
+    ≡ with_store (stored_after (stored_of s) (Hold c.args.target.0 c.args.came.now.lock c.args.came.now.marked (Some c.args.size) seen))
     s) c.self.view_is
     (ap (λ (s : StoreState). with_store s old) (c.in_ok-hold.ensures.held seen)))
     c.note.ensures.added

@@ -11,12 +11,12 @@ use Rattle.lu_client.proofs.client.Client.is_served_by.Goals as goal
 pub returns : goal.returns
 returns c =
     let imports : List ImportState = c.self.inside.imports.items in
-    let inside : c.args.target < length imports = import_inside imports c.args.self.now.client.imports
+    let inside : c.args.target.0 < length imports = import_inside imports c.args.self.now.client.imports
     (ap (λ (s : ClientState). s.client.imports) c.self.view_is) c.requires.target in
-    let item : c.index.result.now ≡ get_or imports c.args.target c.index.result.now = search rules in
-    let here : import_of c.args.target c.args.self.now.client.imports ≡ import_of_state c.index.result.now =
-    ap (λ (s : ClientState). import_of c.args.target s.client.imports) (sym c.self.view_is)
-    ∙ import_here c.args.target imports c.index.result.now inside item in
+    let item : c.index.result.now ≡ get_or imports c.args.target.0 c.index.result.now = search rules in
+    let here : import_of c.args.target.0 c.args.self.now.client.imports ≡ import_of_state c.index.result.now =
+    ap (λ (s : ClientState). import_of c.args.target.0 s.client.imports) (sym c.self.view_is)
+    ∙ import_here c.args.target.0 imports c.index.result.now inside item in
     record {
       serving = c.serving.ensures.same ∙ sym (serving_is c.index.result.now.standing)
           ∙ sym (ap (λ (i : Import). is_serving i.standing) here);

@@ -13,14 +13,14 @@ pub returns : goal.returns
 returns c =
     record {
       makes = on_ok_weaker c.send.result
-          (λ added. join_sent c.args.target c.args.self.now c.args.turn.now c.send.new.self
+          (λ added. join_sent c.args.target.0 c.args.self.now c.args.turn.now c.send.new.self
           (added
           ∙ ap (λ (boot : ℕ). with_post c.args.turn.now.at c.args.turn.now.step
-          (record { to = Target c.args.target; message = message.Join c.self.inside.who boot })) c.boot_known.ensures.boot
+          (record { to = Target c.args.target.0; message = message.Join c.self.inside.who boot })) c.boot_known.ensures.boot
           ∙ ap (λ (who : Who). with_post c.args.turn.now.at c.args.turn.now.step
           (record {
-            to = Target c.args.target;
-            message = message.Join who (import_of c.args.target c.args.self.now.client.imports).boot;
+            to = Target c.args.target.0;
+            message = message.Join who (import_of c.args.target.0 c.args.self.now.client.imports).boot;
           })) (ap (λ (s : ClientState). s.client.who) c.self.view_is))
           c.send.ensures.turn)
           c.send.ensures.added;

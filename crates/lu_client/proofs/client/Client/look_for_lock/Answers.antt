@@ -20,14 +20,14 @@ returns c =
       | in-Some w ↦
           let left : Running = w.ask_again.new.self in
           record {
-            makes = looks_stood c.args.target c.args.slot c.args.self.now (the_view c.match-index_mut.self-inside) w.in-Some.call left
+            makes = looks_stood c.args.target.0 c.args.slot c.args.self.now (the_view c.match-index_mut.self-inside) w.in-Some.call left
                 c.requires.slot (here ∙ w.in-Some.is)
                 (w.ask_again.ensures.looks c.args.slot) (ap the_view w.self-inside-is
                 ∙ ap (with_call c.args.slot (Some left)) c.self.view_is);
           }
       | in_default w ↦
           record {
-            makes = looks_free c.args.target c.args.slot c.args.self.now (the_view c.match-index_mut.self-inside) (here ∙ w.in_default.is)
+            makes = looks_free c.args.target.0 c.args.slot c.args.self.now (the_view c.match-index_mut.self-inside) (here ∙ w.in_default.is)
                 (ap the_view w.self-inside-is ∙ ap (with_call c.args.slot c.index_mut.result.now) c.self.view_is
                 ∙ ap (λ (call : Option Running). with_call c.args.slot call c.args.self.now) w.in_default.is);
           }

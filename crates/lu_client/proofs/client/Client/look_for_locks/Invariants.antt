@@ -3,4 +3,4 @@ use Rattle.lu_client.specs.Resuming.{LooksOn}
 use Rattle.lu_client.proofs.client.Client.look_for_locks.Given as goal
 
 abbrev pub invariant-loop-slot : goal.invariant-loop-slot
-invariant-loop-slot l = LooksOn l.target l.slot l.initial.self l.self
+invariant-loop-slot l = LooksOn l.target.0 l.slot l.initial.self l.self

@@ -9,8 +9,8 @@ pub returns-in-Some : goal.returns-in-Some
 returns-in-Some c =
     record {
       makes = on_ok_weaker c.note.result
-          (λ added. subst (λ (size : Option ℕ). Makes (λ k. peeked c.args.target c.args.cookie size) c.args.self.now c.args.self.now
+          (λ added. subst (λ (size : Option ℕ). Makes (λ k. peeked c.args.target.0 c.args.cookie size) c.args.self.now c.args.self.now
           c.args.turn.now c.note.new.self) (sym c.in-Some.is)
-          (peek_noted c.args.target c.in-Some.size c.args.cookie c.args.self.now c.args.turn.now c.note.new.self added c.note.ensures.turn))
+          (peek_noted c.args.target.0 c.in-Some.size c.args.cookie c.args.self.now c.args.turn.now c.note.new.self added c.note.ensures.turn))
           c.note.ensures.added;
     }

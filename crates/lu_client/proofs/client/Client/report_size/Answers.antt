@@ -15,7 +15,7 @@ use Rattle.lu_client.proofs.client.Client.report_size.Goals as goal
 pub returns : goal.returns
 returns c =
     let post : Who → ℕ → Post = λ who boot. record {
-      to = Target c.args.target;
+      to = Target c.args.target.0;
       message =
           message.Size (record {
             who = who;
@@ -28,11 +28,11 @@ returns c =
             stamp = c.at.result.stamp;
           });
     } in
-    let boot : ℕ = (import_of c.args.target c.args.self.now.client.imports).boot in
+    let boot : ℕ = (import_of c.args.target.0 c.args.self.now.client.imports).boot in
     let same : c.at.result ≡ c.args.turn.now.at = c.at.ensures.at ∙ makes_at c.in_ok-note_peek.ensures.makes in
     record {
       makes = on_ok_weaker c.send.result
-          (λ added. reported c.args.target (question_of c.args.question) c.args.size c.args.self.now c.at.result c.args.turn.now
+          (λ added. reported c.args.target.0 (question_of c.args.question) c.args.size c.args.self.now c.at.result c.args.turn.now
           c.note_peek.new.turn c.send.new.self same c.in_ok-note_peek.ensures.makes
           (added
           ∙ ap (λ (b : ℕ). with_post c.note_peek.new.turn.at c.note_peek.new.turn.step (post c.self.inside.who b)) c.boot_known.ensures.boot

@@ -16,16 +16,16 @@ pub returns : goal.returns
 returns c =
     let imports : List ImportState = c.self.inside.imports.items in
     let limits : Limits = limits_of c.self.inside.osts c.self.inside.flight c.self.inside.dirty c.self.inside.store in
-    let inside : c.args.target < length imports = import_inside imports c.args.self.now.client.imports
+    let inside : c.args.target.0 < length imports = import_inside imports c.args.self.now.client.imports
     (ap (λ (s : ClientState). s.client.imports) c.self.view_is) c.requires.target in
-    let item : c.index.result.now ≡ get_or imports c.args.target c.index.result.now = search rules in
-    let one : IsOne limits c.self.inside.who c.args.target c.index.result.now =
-    subst (IsOne limits c.self.inside.who c.args.target) (sym item)
-    (one_of limits c.self.inside.who c.args.target imports c.index.result.now c.self.invariant.kept inside) in
+    let item : c.index.result.now ≡ get_or imports c.args.target.0 c.index.result.now = search rules in
+    let one : IsOne limits c.self.inside.who c.args.target.0 c.index.result.now =
+    subst (IsOne limits c.self.inside.who c.args.target.0) (sym item)
+    (one_of limits c.self.inside.who c.args.target.0 imports c.index.result.now c.self.invariant.kept inside) in
     record {
       again = subst (λ (s : ClientState). IfOk c.again.result (λ again. posted again
-          ≡ resends s.client.who (import_of c.args.target s.client.imports).boot c.args.target
-          (import_of c.args.target s.client.imports).flights)) c.self.view_is
-          (requests_are limits c.self.inside.who c.args.target c.index.result.now (imports_of imports) one
-          (import_here c.args.target imports c.index.result.now inside item) c.again.result c.again.ensures.sends);
+          ≡ resends s.client.who (import_of c.args.target.0 s.client.imports).boot c.args.target.0
+          (import_of c.args.target.0 s.client.imports).flights)) c.self.view_is
+          (requests_are limits c.self.inside.who c.args.target.0 c.index.result.now (imports_of imports) one
+          (import_here c.args.target.0 imports c.index.result.now inside item) c.again.result c.again.ensures.sends);
     }

@@ -6,7 +6,7 @@ pub returns : goal.returns
 returns c =
     record {
       makes = on_ok_weaker c.send_posts.result
-          (λ given. told_again c.args.target c.in_ok-posts.posts c.args.self.now c.reconnect.new.self c.args.turn.now c.send_posts.new.turn
+          (λ given. told_again c.args.target.0 c.in_ok-posts.posts c.args.self.now c.reconnect.new.self c.args.turn.now c.send_posts.new.turn
           (c.in_ok-posts.ensures.told c.boot_known-boot.ensures.boot c.requires.unserved) given)
           c.send_posts.ensures.sends;
     }

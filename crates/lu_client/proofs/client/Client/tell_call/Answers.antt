@@ -13,7 +13,7 @@ pub returns-in_default : goal.returns-in_default
 returns-in_default c =
     record {
       told = λ f serves. ap (λ (calls : List (Option Running)). with_calls calls c.args.self.now)
-          (sym (none_told c.args.target f c.args.reply.now c.args.self.now.client.calls (serves ∙ c.in_default.is)));
+          (sym (none_told c.args.target.0 f c.args.reply.now c.args.self.now.client.calls (serves ∙ c.in_default.is)));
     }
 
 pub returns-in_default-get_mut : goal.returns-in_default-get_mut
@@ -24,8 +24,8 @@ returns-in_default-get_mut c =
     let past : length c.self.inside.calls.items ≤ c.in-Some.slot = grind (arith, nat_tests, none) in
     record {
       told = λ f serves. ap (λ (calls : List (Option Running)). with_calls calls old)
-          (sym (past_told c.args.target c.in-Some.slot f c.args.reply.now c.self.inside.calls.items (serves ∙ c.in-Some.is) past))
-          ∙ ap (λ (s : ClientState). with_calls (calls_after s.client.calls (Heard c.args.target f c.args.reply.now)) s) c.self.view_is;
+          (sym (past_told c.args.target.0 c.in-Some.slot f c.args.reply.now c.self.inside.calls.items (serves ∙ c.in-Some.is) past))
+          ∙ ap (λ (s : ClientState). with_calls (calls_after s.client.calls (Heard c.args.target.0 f c.args.reply.now)) s) c.self.view_is;
     }
 
 pub returns : goal.returns
@@ -35,9 +35,9 @@ returns c =
     record {
       told = on_ok_weaker c.tell.result
           (λ told f serves. ap (λ (calls : List (Option Running)). with_calls calls old)
-          (slot_told c.args.target c.in-Some.slot f c.args.reply.now c.self.inside.calls.items c.in-Some-get_mut.call.now c.tell.new.call
+          (slot_told c.args.target.0 c.in-Some.slot f c.args.reply.now c.self.inside.calls.items c.in-Some-get_mut.call.now c.tell.new.call
           (serves ∙ c.in-Some.is) c.in-Some-get_mut.ensures.item.3.0 c.in-Some-get_mut.ensures.value
           (told c.in-Some.slot f (serves ∙ c.in-Some.is)))
-          ∙ ap (λ (s : ClientState). with_calls (calls_after s.client.calls (Heard c.args.target f c.args.reply.now)) s) c.self.view_is)
+          ∙ ap (λ (s : ClientState). with_calls (calls_after s.client.calls (Heard c.args.target.0 f c.args.reply.now)) s) c.self.view_is)
           c.tell.ensures.told;
     }

@@ -28,8 +28,8 @@ obey-requires-in-Some g c =
     } in
     let shown = subst (λ (n : NodesState). AreShown n) (sym c.self.view_is) c.requires.shown in
     let place = c.in-Some.place in
-    let later : c.args.target ≡ place + 1 = omega (arith, c.in-Some.ensures) in
-    let one = subst (λ (n : NodesState). c.args.target ≤ length n.objects) (sym c.self.view_is) c.requires.one in
+    let later : c.args.target.0 ≡ place + 1 = omega (arith, c.in-Some.ensures) in
+    let one = subst (λ (n : NodesState). c.args.target.0 ≤ length n.objects) (sym c.self.view_is) c.requires.one in
     let within : place < length nodes.objects = omega (arith, later, one) in
     record { shown = object_is_shown nodes place c.index_mut.result.now shown within c.index_mut.ensures.value }
 
@@ -41,9 +41,9 @@ returns-in-None-clause-made g c =
       objects =
           c.self.inside.objects.items;
     } in
-    let first : c.args.target ≡ 0 = omega (arith, c.in-None.ensures) in
+    let first : c.args.target.0 ≡ 0 = omega (arith, c.in-None.ensures) in
     let event = event_of c.args.command in
-    IfOk-weaker c.obey.result _ _ (λ step makes. names_step nodes c.args.self.now c.args.stamp c.self.view_is c.args.target c.obey.new.seat
+    IfOk-weaker c.obey.result _ _ (λ step makes. names_step nodes c.args.self.now c.args.stamp c.self.view_is c.args.target.0 c.obey.new.seat
     first event event step makes) c.obey.ensures.made
 
 pub returns-in-None-clause-failed : goal.returns-in-None-clause-failed
@@ -54,8 +54,8 @@ returns-in-None-clause-failed g c = λ step is.
       objects =
           c.self.inside.objects.items;
     } in
-    let first : c.args.target ≡ 0 = omega (arith, c.in-None.ensures) in
-    names_stops nodes c.args.self.now c.args.stamp c.self.view_is c.args.target c.obey.new.seat first (event_of c.args.command) step
+    let first : c.args.target.0 ≡ 0 = omega (arith, c.in-None.ensures) in
+    names_stops nodes c.args.self.now c.args.stamp c.self.view_is c.args.target.0 c.obey.new.seat first (event_of c.args.command) step
     (c.obey.ensures.failed step is)
 
 pub returns-in-Some-clause-made : goal.returns-in-Some-clause-made
@@ -67,12 +67,12 @@ returns-in-Some-clause-made g c =
           c.self.inside.objects.items;
     } in
     let place = c.in-Some.place in
-    let later : c.args.target ≡ place + 1 = omega (arith, c.in-Some.ensures) in
-    let one = subst (λ (n : NodesState). c.args.target ≤ length n.objects) (sym c.self.view_is) c.requires.one in
+    let later : c.args.target.0 ≡ place + 1 = omega (arith, c.in-Some.ensures) in
+    let one = subst (λ (n : NodesState). c.args.target.0 ≤ length n.objects) (sym c.self.view_is) c.requires.one in
     let within : place < length nodes.objects = omega (arith, later, one) in
     let event = event_of c.args.command in
     IfOk-weaker c.obey-in-Some.result _ _
-    (λ step makes. object_step nodes c.args.self.now c.args.stamp c.self.view_is c.args.target place c.index_mut.result.now
+    (λ step makes. object_step nodes c.args.self.now c.args.stamp c.self.view_is c.args.target.0 place c.index_mut.result.now
     c.obey-in-Some.new.seat later within c.index_mut.ensures.value event event step makes)
     c.obey-in-Some.ensures.made
 
@@ -85,10 +85,10 @@ returns-in-Some-clause-failed g c = λ step is.
           c.self.inside.objects.items;
     } in
     let place = c.in-Some.place in
-    let later : c.args.target ≡ place + 1 = omega (arith, c.in-Some.ensures) in
-    let one = subst (λ (n : NodesState). c.args.target ≤ length n.objects) (sym c.self.view_is) c.requires.one in
+    let later : c.args.target.0 ≡ place + 1 = omega (arith, c.in-Some.ensures) in
+    let one = subst (λ (n : NodesState). c.args.target.0 ≤ length n.objects) (sym c.self.view_is) c.requires.one in
     let within : place < length nodes.objects = omega (arith, later, one) in
-    object_stops nodes c.args.self.now c.args.stamp c.self.view_is c.args.target place c.index_mut.result.now c.obey-in-Some.new.seat later
+    object_stops nodes c.args.self.now c.args.stamp c.self.view_is c.args.target.0 place c.index_mut.result.now c.obey-in-Some.new.seat later
     within c.index_mut.ensures.value (event_of c.args.command) step
     (c.obey-in-Some.ensures.failed step is)
 
@@ -100,9 +100,9 @@ returns-in-None-clause-foreseen g c = λ is tick head turns past shows.
       objects =
           c.self.inside.objects.items;
     } in
-    let first : c.args.target ≡ 0 = omega (arith, c.in-None.ensures) in
-    c.obey.ensures.foreseen is tick head c.args.target past (names_in nodes c.args.self.now c.self.view_is head turns past shows
-    c.args.target first)
+    let first : c.args.target.0 ≡ 0 = omega (arith, c.in-None.ensures) in
+    c.obey.ensures.foreseen is tick head c.args.target.0 past (names_in nodes c.args.self.now c.self.view_is head turns past shows
+    c.args.target.0 first)
 
 pub returns-in-Some-clause-foreseen : goal.returns-in-Some-clause-foreseen
 returns-in-Some-clause-foreseen g c = λ is tick head turns past shows.
@@ -113,9 +113,9 @@ returns-in-Some-clause-foreseen g c = λ is tick head turns past shows.
           c.self.inside.objects.items;
     } in
     let place = c.in-Some.place in
-    let later : c.args.target ≡ place + 1 = omega (arith, c.in-Some.ensures) in
-    let one = subst (λ (n : NodesState). c.args.target ≤ length n.objects) (sym c.self.view_is) c.requires.one in
+    let later : c.args.target.0 ≡ place + 1 = omega (arith, c.in-Some.ensures) in
+    let one = subst (λ (n : NodesState). c.args.target.0 ≤ length n.objects) (sym c.self.view_is) c.requires.one in
     let within : place < length nodes.objects = omega (arith, later, one) in
-    c.obey-in-Some.ensures.foreseen is tick head c.args.target past
-    (object_in nodes c.args.self.now c.self.view_is head turns past shows c.args.target place c.index_mut.result.now later within
+    c.obey-in-Some.ensures.foreseen is tick head c.args.target.0 past
+    (object_in nodes c.args.self.now c.self.view_is head turns past shows c.args.target.0 place c.index_mut.result.now later within
     c.index_mut.ensures.value)

@@ -12,7 +12,7 @@ returns-in-Some-get g c =
       objects =
           c.self.inside.objects.items;
     } in
-    let target = c.args.target in
+    let target = c.args.target.0 in
     let place = c.in-Some.place in
     let seat = c.in-Some-get.seat.now in
     let later : target ≡ place + 1 = omega (arith, c.in-Some.ensures) in
@@ -33,7 +33,7 @@ returns-in-None g c =
       objects =
           c.self.inside.objects.items;
     } in
-    let target = c.args.target in
+    let target = c.args.target.0 in
     let place = c.in-Some.place in
     let later : target ≡ place + 1 = omega (arith, c.in-Some.ensures) in
     let past = subst (λ (seats : List TargetSeat). length seats ≤ place) c.deref.ensures.value c.in-None.ensures.lookup.3 in

@@ -39,10 +39,10 @@ returns-in_default-clause-made g c =
       objects =
           c.self.inside.objects.items;
     } in
-    let first : c.args.target ≡ 0 = omega (arith, c.in_default.ensures) in
+    let first : c.args.target.0 ≡ 0 = omega (arith, c.in_default.ensures) in
     let message = c.args.message.now in
     IfOk-weaker c.deliver.result _ _
-    (λ step makes n from. names_step nodes c.args.self.now c.args.stamp c.self.view_is c.args.target c.deliver.new.self first
+    (λ step makes n from. names_step nodes c.args.self.now c.args.stamp c.self.view_is c.args.target.0 c.deliver.new.self first
     (Comes 0 from message) (Comes n from message) step (makes n from))
     c.deliver.ensures.made
 
@@ -54,8 +54,8 @@ returns-in_default-clause-failed g c = λ step is from.
       objects =
           c.self.inside.objects.items;
     } in
-    let first : c.args.target ≡ 0 = omega (arith, c.in_default.ensures) in
-    names_stops nodes c.args.self.now c.args.stamp c.self.view_is c.args.target c.deliver.new.self first (Comes 0 from c.args.message.now)
+    let first : c.args.target.0 ≡ 0 = omega (arith, c.in_default.ensures) in
+    names_stops nodes c.args.self.now c.args.stamp c.self.view_is c.args.target.0 c.deliver.new.self first (Comes 0 from c.args.message.now)
     step (c.deliver.ensures.failed step is from)
 
 pub returns-clause-made : goal.returns-clause-made
@@ -67,12 +67,12 @@ returns-clause-made g c =
           c.self.inside.objects.items;
     } in
     let place = c.in-Some.place in
-    let later : c.args.target ≡ place + 1 = omega (arith, c.in-Some.ensures) in
+    let later : c.args.target.0 ≡ place + 1 = omega (arith, c.in-Some.ensures) in
     let within : place < length nodes.objects = c.in-Some-get_mut.ensures.item.3.0 in
     let message = c.args.message.now in
     IfOk-weaker c.deliver-2.result _ _
     (λ step makes n from.
-    object_step nodes c.args.self.now c.args.stamp c.self.view_is c.args.target place c.in-Some-get_mut.seat.now c.deliver-2.new.self later
+    object_step nodes c.args.self.now c.args.stamp c.self.view_is c.args.target.0 place c.in-Some-get_mut.seat.now c.deliver-2.new.self later
     within c.in-Some-get_mut.ensures.value
     (Comes 0 from message) (Comes n from message) step (makes n from))
     c.deliver-2.ensures.made
@@ -86,9 +86,9 @@ returns-clause-failed g c = λ step is from.
           c.self.inside.objects.items;
     } in
     let place = c.in-Some.place in
-    let later : c.args.target ≡ place + 1 = omega (arith, c.in-Some.ensures) in
+    let later : c.args.target.0 ≡ place + 1 = omega (arith, c.in-Some.ensures) in
     let within : place < length nodes.objects = c.in-Some-get_mut.ensures.item.3.0 in
-    object_stops nodes c.args.self.now c.args.stamp c.self.view_is c.args.target place c.in-Some-get_mut.seat.now c.deliver-2.new.self later
+    object_stops nodes c.args.self.now c.args.stamp c.self.view_is c.args.target.0 place c.in-Some-get_mut.seat.now c.deliver-2.new.self later
     within c.in-Some-get_mut.ensures.value
     (Comes 0 from c.args.message.now) step (c.deliver-2.ensures.failed step is from)
 
@@ -100,9 +100,9 @@ returns-in_default-clause-foreseen g c = λ is head turns past from shows one.
       objects =
           c.self.inside.objects.items;
     } in
-    let first : c.args.target ≡ 0 = omega (arith, c.in_default.ensures) in
-    c.deliver.ensures.foreseen is head c.args.target past from (names_in nodes c.args.self.now c.self.view_is head turns past shows
-    c.args.target first)
+    let first : c.args.target.0 ≡ 0 = omega (arith, c.in_default.ensures) in
+    c.deliver.ensures.foreseen is head c.args.target.0 past from (names_in nodes c.args.self.now c.self.view_is head turns past shows
+    c.args.target.0 first)
 
 pub returns-in_default-get_mut-clause-foreseen : goal.returns-in_default-get_mut-clause-foreseen
 returns-in_default-get_mut-clause-foreseen g c = λ is head turns past from shows one takes.
@@ -113,9 +113,9 @@ returns-in_default-get_mut-clause-foreseen g c = λ is head turns past from show
           c.self.inside.objects.items;
     } in
     let place = c.in-Some.place in
-    let later : c.args.target ≡ place + 1 = omega (arith, c.in-Some.ensures) in
+    let later : c.args.target.0 ≡ place + 1 = omega (arith, c.in-Some.ensures) in
     let beyond : length nodes.objects ≤ place = c.in_default-get_mut.ensures.item.3 in
-    no_object nodes c.args.self.now c.self.view_is head turns past shows c.args.target place later beyond one
+    no_object nodes c.args.self.now c.self.view_is head turns past shows c.args.target.0 place later beyond one
 
 pub returns-clause-foreseen : goal.returns-clause-foreseen
 returns-clause-foreseen g c = λ is head turns past from shows one.
@@ -126,8 +126,8 @@ returns-clause-foreseen g c = λ is head turns past from shows one.
           c.self.inside.objects.items;
     } in
     let place = c.in-Some.place in
-    let later : c.args.target ≡ place + 1 = omega (arith, c.in-Some.ensures) in
+    let later : c.args.target.0 ≡ place + 1 = omega (arith, c.in-Some.ensures) in
     let within : place < length nodes.objects = c.in-Some-get_mut.ensures.item.3.0 in
-    c.deliver-2.ensures.foreseen is head c.args.target past from
-    (object_in nodes c.args.self.now c.self.view_is head turns past shows c.args.target place c.in-Some-get_mut.seat.now later within
+    c.deliver-2.ensures.foreseen is head c.args.target.0 past from
+    (object_in nodes c.args.self.now c.self.view_is head turns past shows c.args.target.0 place c.in-Some-get_mut.seat.now later within
     c.in-Some-get_mut.ensures.value)
