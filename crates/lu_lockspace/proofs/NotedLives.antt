@@ -1,5 +1,5 @@
 -- The notes of some lives lead to all resources on which they have locks.
-use Rattle.std.proofs.Common.{◌≡◌, ℕ, ◌+◌, ◌<◌, Bool, true, false, not, cond, ◌||◌, ◌&&◌, List, [], ◌∷◌, ◌++◌, length, take, filter, get_or}
+use Rattle.std.proofs.Common.{◌≡◌, ℕ, ◌+◌, ◌<◌, Bool, true, false, cond, ◌||◌, List, [], ◌∷◌, ◌++◌, length, take, filter, get_or}
 use Rattle.std.proofs.Common.{refl, sym, ◌∙◌, ap, subst, arith}
 use Rattle.std.specs.List.{list_any}
 use Rattle.std.specs.BTreeMap.{is_at}
@@ -18,7 +18,6 @@ use Rattle.lu_lockspace.specs.declared.stays.Stay.{Stay}
 use Rattle.lu_lockspace.specs.Spaces.{same_resource}
 use Rattle.lu_lockspace.specs.Entries.{Entries, order, at}
 use Rattle.lu_lockspace.specs.Notes.{stay, stay_order, is_noted, is_waited, AllNoted, AllListed, AreNoted}
-use Rattle.lu_lockspace.proofs.Resources.{is_at_same}
 use Rattle.lu_lockspace.proofs.Notes.{stay_is, is_stay, both, or_left, or_right, life_turned, same_life}
 
 abbrev pub first : Who → Stay

@@ -1,10 +1,9 @@
 //! The queues of a target's resources, each under its resource, in rising Fid and stripe.
 
-ghost use Rattle.std.specs.Prelude.{◌≡◌, [], IfOk, OnOk, OnErr, IsSome, IsTrue, IsPermutation, map, filter};
-ghost use Rattle.std.specs.List.{list_any};
+ghost use Rattle.std.specs.Prelude.{◌≡◌, [], IfOk, OnOk, OnErr, IsSome, IsTrue, IsPermutation};
 ghost use Rattle.std.specs.Option.{option_copied};
 ghost use Rattle.lu_lock.specs.Overlap.{IsOrdered};
-ghost use Rattle.lu_queue.specs.Queues.{empty, lock_under, is_in, placed, with_lock, may_restore, restored, has_of, IsTakenAway, IsQueue};
+ghost use Rattle.lu_queue.specs.Queues.{empty, lock_under, placed, with_lock, may_restore, restored, has_of, IsTakenAway, IsQueue};
 ghost use Rattle.lu_lockspace.specs.Guarded.{guarded_on, guarded_on_all, of_life_on, of_life_on_all};
 ghost use Rattle.lu_lockspace.specs.Spaces.{meets_guard, some_waits, AreBlockers};
 ghost use Rattle.lu_lockspace.specs.Entries.{entry_of, at, cookies_that, AreRising, Keeps};

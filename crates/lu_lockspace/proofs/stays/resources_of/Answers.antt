@@ -3,7 +3,6 @@ use Rattle.std.proofs.Common.{◌≡◌, true, sym, subst, arith}
 use Rattle.std.specs.List.{list_any}
 use Rattle.std.proofs.lemmas.List.{take_all}
 use Rattle.lu_lockspace.specs.Spaces.{same_resource}
-use Rattle.lu_lockspace.specs.Notes.{is_waited}
 use Rattle.lu_lockspace.proofs.NotedLives.{more_resources}
 use Rattle.lu_lockspace.proofs.stays.resources_of.Goals as goal
 
