@@ -1,6 +1,6 @@
 -- All locks of some lives are taken away, resource by resource.
-use Rattle.std.proofs.Common.{◌≡◌, ℕ, zero, suc, ◌+◌, ◌<◌, ◌==◌, ◌||◌, Bool, true, false, not, cond, Option, Some, None, List, [], ◌∷◌}
-use Rattle.std.proofs.Common.{◌++◌, length, take, map, filter, get_or, refl, sym, ◌∙◌, ap, subst, arith}
+use Rattle.std.proofs.Common.{◌≡◌, ℕ, zero, suc, ◌+◌, ◌<◌, ◌≤◌, ◌==◌, ◌||◌, Bool, true, false, not, cond, Option, Some, None, List, [], ◌∷◌}
+use Rattle.std.proofs.Common.{◌++◌, length, take, drop, map, filter, get_or, refl, sym, ◌∙◌, ap, subst, arith}
 use Rattle.std.specs.Prelude.{IsSome, ⊤}
 use Rattle.std.specs.Option.{unwrap_or}
 use Rattle.std.specs.Ordering.{nat_cmp, is_eq}
@@ -13,6 +13,7 @@ use Rattle.std.proofs.lemmas.Bool.Decides.{nat_tests}
 use Rattle.std.proofs.lemmas.Grind.{common_steps}
 use Rattle.std.proofs.lemmas.List.{append-nil, append_assoc, map-append, take_more}
 use Rattle.std.proofs.lemmas.Map.Keys.{sorted_head, sorted_tail}
+use Rattle.std.proofs.lemmas.List.Folds.{list_any-append}
 use Rattle.lu_base.specs.declared.ids.Cookie.{Cookie}
 use Rattle.lu_base.specs.declared.ids.Who.{Who}
 use Rattle.lu_base.specs.declared.locks.Resource.{Resource}
@@ -23,8 +24,11 @@ use Rattle.lu_queue.proofs.Lists as lists
 use Rattle.lu_lockspace.specs.Spaces.{SpaceState, same_resource, queue_of, IsBefore, AllSettled, AreCancelled, IsSpace}
 use Rattle.lu_lockspace.specs.Entries.{Entries, order, entry_of, at, all_of, changed, AreRising, Keeps, Places, place_of, is_place}
 use Rattle.lu_lockspace.specs.Entries.{IsIndexed}
-use Rattle.lu_lockspace.specs.Ending.{AllEnded, AllThere, AllReplaced}
+use Rattle.lu_lockspace.specs.Ending.{AllEnded, AllThere, AllReplaced, AreGone, cookies_of, taken, taken_on_all, is_among}
+use Rattle.lu_lockspace.specs.Notes.{IsFewer, AllFewer}
+use Rattle.lu_lockspace.proofs.Notes.{fewer_ended}
 use Rattle.lu_lockspace.proofs.Resources.{same_itself, same_is, same_turned, is_at_same, at_here, at_next, queue_at}
+use Rattle.lu_lockspace.proofs.Lists.{rest_at}
 use Rattle.lu_lockspace.proofs.Laws.{keeps_others, granted_in, eq_at}
 
 -- ---- one resource after another
@@ -83,9 +87,9 @@ queues_after lives before now after (e ∷ ended) grants whole (first, rest, all
       by s true same = subst (λ k. IsQueue (at k next)) (same_is e.0 s same) (subst IsQueue (sym here) one)
       by s false differ = subst IsQueue (sym (still e.0 s now next keeps differ)) (whole s)
 
--- no cookie comes
-abbrev pub NoneComes : (before now : Entries) → Type 0
-NoneComes before now = (c : ℕ) (r : Resource) → queue.is_in c (at r now) ≡ true → queue.is_in c (at r before) ≡ true
+or_true : (a b : Bool) → b ≡ true → (a || b) ≡ true
+or_true true b h = refl
+or_true false b h = h
 
 has_filter : (c : ℕ) (test : Grant → Bool) (xs : List Grant) → queue.has c xs ≡ false → queue.has c (filter test xs) ≡ false
 has_filter c test xs none =
@@ -105,20 +109,6 @@ in_lives c lives all h = by (queue.is_in c all) refl where
       let none : queue.is_in c (without_lives lives all) ≡ false = λ i. has_filter c others all.granted parts.0 i
       || has_filter c others all.waiting parts.1 i in
       sym none ∙ h
-
-pub none_comes : (lives : List Who) (before now after ended : Entries) (grants : List Grant) → NoneComes before now →
-    AllEnded lives before ended grants → AllReplaced ended now after → NoneComes before after
-none_comes lives before now after [] grants known none is = subst (NoneComes before) (sym is) known
-none_comes lives before now after (e ∷ ended) grants known (first, rest, all, steps, one, more) (next, up2, here, keeps, replaced) =
-    none_comes lives before next after ended rest (λ c s. by c s (same_resource e.0 s) refl) more replaced where
-      fewer : (c : ℕ) → queue.is_in c e.1 ≡ true → queue.is_in c (at e.0 before) ≡ true
-      fewer c h = in_lives c lives (at e.0 before) (sym (granted_in c (without_lives lives (at e.0 before)) first e.1 steps) ∙ h)
-
-      by : (c : ℕ) (s : Resource) (b : Bool) → same_resource e.0 s ≡ b → queue.is_in c (at s next) ≡ true → queue.is_in c (at s before)
-          ≡ true
-      by c s true same h = subst (λ k. queue.is_in c (at k next) ≡ true → queue.is_in c (at k before) ≡ true) (same_is e.0 s same)
-          (λ g. fewer c (sym (ap (queue.is_in c) here) ∙ g)) h
-      by c s false differ h = known c s (sym (ap (queue.is_in c) (still e.0 s now next keeps differ)) ∙ h)
 
 -- ---- one more of the new queues
 
@@ -149,90 +139,6 @@ there_more r now next (s ∷ rs) keeps apart there = (
   there.1,
   there_more r now next rs keeps apart.1 there.2,
 )
-
--- ---- the places of the locks that are left
-
--- what is found, where it passes a test
-abbrev passing : (Resource → Bool) → Option Resource → Option Resource
-passing test None = None
-passing test (Some r) = cond (test r) (Some r) None
-
-abbrev Up : Places → Type 0
-Up ps = IsStrictlySortedBy (λ a b. nat_cmp a.0 b.0) (keys_of ps)
-
--- a cookie is at none of the later places
-no_later : (c : ℕ) (k : Cookie) (ps : Places) → (k.0 == c) ≡ true → AllByRecursion (λ y. nat_cmp k.0 y.0 ≡ Less) (keys_of ps)
-    → place_of c ps ≡ None
-no_later c k [] same above = refl
-no_later c k (e ∷ ps) same above = by (is_eq (nat_cmp c e.0.0)) (eq_at c e.0.0 ∙ apart) (no_later c k ps same above.1) where
-  apart : (c == e.0.0) ≡ false
-  apart = let lower : is_eq (nat_cmp k.0 e.0.0) ≡ false = ap is_eq above.0 in let differs : (k.0 == e.0.0) ≡ false = sym (eq_at k.0 e.0.0)
-      ∙ lower in grind (arith, nat_tests, same, differs)
-
-  by : (b : Bool) → b ≡ false → place_of c ps ≡ None → cond b (Some e.1) (place_of c ps) ≡ None
-  by true h rest = absurd (cc)
-  by false h rest = rest
-
-place_passing : (c : ℕ) (keep : Cookie × Resource → Bool) (test : Resource → Bool)
-    → ((e : Cookie × Resource) → (e.0.0 == c) ≡ true → keep e ≡ test e.1) →
-    (ps : Places) → Up ps → place_of c (filter keep ps) ≡ passing test (place_of c ps)
-place_passing c keep test like [] up = refl
-place_passing c keep test like (e ∷ ps) up =
-    by (is_eq (nat_cmp c e.0.0)) refl (keep e) refl (place_passing c keep test like ps
-    (sorted_tail (λ a b. nat_cmp a.0 b.0) e.0 (keys_of ps) up)) where
-      equal : is_eq (nat_cmp c e.0.0) ≡ true → (e.0.0 == c) ≡ true
-      equal h = let same : (c == e.0.0) ≡ true = sym (eq_at c e.0.0) ∙ h in grind (arith, nat_tests, same)
-
-      none : is_eq (nat_cmp c e.0.0) ≡ true → place_of c ps ≡ None
-      none h = no_later c e.0 ps (equal h) (sorted_head (λ a b. nat_cmp a.0 b.0) e.0 (keys_of ps) up)
-
-      by : (b : Bool) → is_eq (nat_cmp c e.0.0) ≡ b → (v : Bool) → keep e ≡ v → place_of c (filter keep ps) ≡ passing test (place_of c ps) →
-          place_of c (cond v (e ∷ filter keep ps) (filter keep ps)) ≡ passing test (cond b (Some e.1) (place_of c ps))
-      by true h true k rest =
-          let t : test e.1 ≡ true = sym (like e (equal h)) ∙ k in
-          ap (λ b. cond b (Some e.1) (place_of c (filter keep ps))) h ∙ sym (ap (λ b. cond b (Some e.1) None) t)
-      by true h false k rest =
-          let t : test e.1 ≡ false = sym (like e (equal h)) ∙ k in
-          rest ∙ ap (passing test) (none h) ∙ sym (ap (λ b. cond b (Some e.1) None) t)
-      by false h true k rest = ap (λ b. cond b (Some e.1) (place_of c (filter keep ps))) h ∙ rest
-      by false h false k rest = rest
-
-pub indexed_ended : (lives : List Who) (before after ended : Entries) (grants : List Grant) (ps new : Places) → IsIndexed before ps
-    → AreRising after →
-    AllEnded lives before ended grants → AllReplaced ended before after → Up new →
-    new ≡ filter (λ e. queue.is_in e.0.0 (at e.1 after)) ps → IsIndexed after new
-indexed_ended lives before after ended grants ps new indexed up more replaced cookies kept = record {
-  rising = up;
-  queues = queues_after lives before before after ended grants indexed.queues more replaced;
-  placed = placed;
-  cookies = cookies;
-}
-  where
-    test : ℕ → Resource → Bool
-    test c r = queue.is_in c (at r after)
-
-    now : (c : ℕ) → place_of c new ≡ passing (test c) (place_of c ps)
-    now c = ap (place_of c) kept ∙ place_passing c (λ e. queue.is_in e.0.0 (at e.1 after)) (test c)
-        (λ e same. let k : e.0.0 ≡ c = grind (arith, nat_tests, same) in ap (λ n. queue.is_in n (at e.1 after)) k) ps indexed.cookies
-
-    fewer : (c : ℕ) (r : Resource) → queue.is_in c (at r before) ≡ false → queue.is_in c (at r after) ≡ false
-    fewer c r none = by (queue.is_in c (at r after)) refl where
-      by : (b : Bool) → queue.is_in c (at r after) ≡ b → b ≡ false
-      by true e = sym (none_comes lives before before after ended grants (λ k s h. h) more replaced c r e) ∙ none
-      by false e = refl
-
-    placed : (c : ℕ) (r : Resource) → queue.is_in c (at r after) ≡ is_place r (place_of c new)
-    placed c r = by (place_of c ps) (indexed.placed c r) ∙ ap (is_place r) (sym (now c)) where
-      in_place : (s : Resource) (b : Bool) → same_resource r s ≡ b → queue.is_in c (at r before) ≡ b → (v : Bool) → test c s ≡ v
-          → queue.is_in c (at r after) ≡ is_place r (cond v (Some s) None)
-      in_place s true same h true t = ap (λ k. queue.is_in c (at k after)) (same_is r s same) ∙ t ∙ sym same
-      in_place s true same h false t = ap (λ k. queue.is_in c (at k after)) (same_is r s same) ∙ t
-      in_place s false same h true t = fewer c r h ∙ sym same
-      in_place s false same h false t = fewer c r h
-
-      by : (p : Option Resource) → queue.is_in c (at r before) ≡ is_place r p → queue.is_in c (at r after) ≡ is_place r (passing (test c) p)
-      by None h = fewer c r h
-      by (Some s) h = in_place s (same_resource r s) refl h (test c s) refl
 
 -- ---- the resources on which the lives have locks
 
@@ -355,6 +261,266 @@ cancelled lives before after ended grants up same more replaced = record {
   settled = settled lives before before after ended grants up (subst (AllThere before) (sym same) (changed_there lives before up))
       (unchanged_at_first before (keys_of ended)) more replaced;
 }
+
+-- ---- what is left in each queue
+
+-- the queues of these resources are those without the locks of the lives, and the others as they were
+left_in : (lives : List Who) (before now after ended : Entries) (grants : List Grant) → AllEnded lives before ended grants →
+    AllReplaced ended now after → (c : ℕ) (r : Resource) →
+    (list_any (same_resource r) (keys_of ended) ≡ true → queue.is_in c (at r after) ≡ queue.is_in c (without_lives lives (at r before)))
+    × (list_any (same_resource r) (keys_of ended) ≡ false → at r after ≡ at r now)
+left_in lives before now after [] grants none is c r = ((λ h. absurd (differs (sym h))), (λ h. ap (at r) is)) where
+  differs : true ≡ false → ⊥
+  differs p = cc
+left_in lives before now after (e ∷ ended) grants (first, rest, all, steps, one, more) (next, up2, here, keeps, replaced) c r =
+    by (same_resource r e.0) refl (list_any (same_resource r) (keys_of ended)) refl
+    (left_in lives before next after ended rest more replaced c r) where
+      among : Bool
+      among = list_any (same_resource r) (keys_of ended)
+
+      Left : Bool → Type 0
+      Left v = (v ≡ true → queue.is_in c (at r after) ≡ queue.is_in c (without_lives lives (at r before)))
+          × (v ≡ false → at r after ≡ at r now)
+
+      differs : true ≡ false → ⊥
+      differs p = cc
+
+      new : same_resource r e.0 ≡ true → at r next ≡ e.1
+      new same = subst (λ k. at k next ≡ e.1) (sym (same_is r e.0 same)) here
+
+      gone : same_resource r e.0 ≡ true → queue.is_in c e.1 ≡ queue.is_in c (without_lives lives (at r before))
+      gone same = subst (λ k. queue.is_in c e.1 ≡ queue.is_in c (without_lives lives (at k before))) (sym (same_is r e.0 same))
+          (granted_in c (without_lives lives (at e.0 before)) first e.1 steps)
+
+      by : (b : Bool) → same_resource r e.0 ≡ b → (v : Bool) → among ≡ v →
+          (among ≡ true → queue.is_in c (at r after) ≡ queue.is_in c (without_lives lives (at r before)))
+          × (among ≡ false → at r after ≡ at r next) → Left (same_resource r e.0 || among)
+      by b same true last found = (λ h. found.0 last, λ h. absurd (differs (sym (or_true (same_resource r e.0) among last) ∙ h)))
+      by true same false last found = (
+        λ h. ap (queue.is_in c) (found.1 last ∙ new same) ∙ gone same,
+        λ h. absurd (differs (sym (ap (λ w. w || among) same) ∙ h)),
+      )
+      by false same false last found = (
+        λ h. absurd (differs (sym h ∙ ap (λ w. w || among) same ∙ last)),
+        λ h. found.1 last ∙ still e.0 r now next keeps (same_turned e.0 r ∙ same),
+      )
+
+-- the places of the cookies that are taken away
+
+has_cookies : (c : ℕ) (lives : List Who) (xs : List Grant) → is_among c (cookies_of lives xs) ≡ queue.has c (filter (λ x. is_of lives x) xs)
+has_cookies c lives [] = refl
+has_cookies c lives (x ∷ xs) = by (is_of lives x) (has_cookies c lives xs) where
+  by : (b : Bool) → is_among c (cookies_of lives xs) ≡ queue.has c (filter (λ y. is_of lives y) xs) →
+      is_among c (map (λ y. y.cookie) (cond b (x ∷ filter (λ y. is_of lives y) xs) (filter (λ y. is_of lives y) xs)))
+      ≡ queue.has c (cond b (x ∷ filter (λ y. is_of lives y) xs) (filter (λ y. is_of lives y) xs))
+  by true rest = ap (λ v. (x.cookie.0 == c) || v) rest
+  by false rest = rest
+
+-- each lock of a cookie is of the lives, or of another
+times_parts : (c : ℕ) (lives : List Who) (xs : List Grant) → queue.times c (filter (λ x. is_of lives x) xs)
+    + queue.times c (filter (λ x. not (is_of lives x)) xs) ≡ queue.times c xs
+times_parts c lives [] = refl
+times_parts c lives (x ∷ xs) = let rest = times_parts c lives xs in grind (arith, common_steps, rest)
+
+has_parts : (c : ℕ) (lives : List Who) (xs : List Grant) → queue.has c (filter (λ x. is_of lives x) xs) ≡ false
+    → queue.has c (filter (λ x. not (is_of lives x)) xs) ≡ queue.has c xs
+has_parts c lives [] none = refl
+has_parts c lives (x ∷ xs) none = by (is_of lives x) none (has_parts c lives xs) where
+  by : (b : Bool) → queue.has c (cond b (x ∷ filter (λ y. is_of lives y) xs) (filter (λ y. is_of lives y) xs)) ≡ false →
+      (queue.has c (filter (λ y. is_of lives y) xs) ≡ false → queue.has c (filter (λ y. not (is_of lives y)) xs) ≡ queue.has c xs) →
+      queue.has c (cond (not b) (x ∷ filter (λ y. not (is_of lives y)) xs) (filter (λ y. not (is_of lives y)) xs))
+      ≡ ((x.cookie.0 == c) || queue.has c xs)
+  by true none rest =
+      let parts = lists.or_false (x.cookie.0 == c) (queue.has c (filter (λ y. is_of lives y) xs)) none in
+      rest parts.1 ∙ sym (ap (λ v. v || queue.has c xs) parts.0)
+  by false none rest = ap (λ v. (x.cookie.0 == c) || v) (rest none)
+
+among_taken : (c : ℕ) (lives : List Who) (q : QueueState) → is_among c (taken lives q)
+    ≡ (queue.has c (filter (λ x. is_of lives x) q.granted) || queue.has c (filter (λ x. is_of lives x) q.waiting))
+among_taken c lives q = list_any-append (λ other. other.0 == c) (cookies_of lives q.granted) (cookies_of lives q.waiting)
+    ∙ (λ i. has_cookies c lives q.granted i || has_cookies c lives q.waiting i)
+
+-- what isn't taken is left
+not_taken : (c : ℕ) (lives : List Who) (q : QueueState) → is_among c (taken lives q) ≡ false → queue.is_in c (without_lives lives q)
+    ≡ queue.is_in c q
+not_taken c lives q none =
+    let parts = lists.or_false (queue.has c (filter (λ x. is_of lives x) q.granted)) (queue.has c (filter (λ x. is_of lives x) q.waiting))
+    (sym (among_taken c lives q) ∙ none) in
+    λ i. has_parts c lives q.granted parts.0 i || has_parts c lives q.waiting parts.1 i
+
+-- what is taken isn't, since it was there once
+is_taken : (c : ℕ) (lives : List Who) (q : QueueState) → IsQueue q → is_among c (taken lives q) ≡ true
+    → (queue.is_in c q ≡ true) × (queue.is_in c (without_lives lives q) ≡ false)
+is_taken c lives q whole h = (in_all, left) where
+  mine : List Grant → List Grant
+  mine xs = filter (λ x. is_of lives x) xs
+
+  others : List Grant → List Grant
+  others xs = filter (λ x. not (is_of lives x)) xs
+
+  found : (queue.has c (mine q.granted) || queue.has c (mine q.waiting)) ≡ true
+  found = sym (among_taken c lives q) ∙ h
+
+  once : queue.times c q.granted + queue.times c q.waiting ≤ 1
+  once = let most = whole.coherent.once c in let d = lists.times-append c q.granted q.waiting in omega arith
+
+  some_times : (xs ys : List Grant) → (queue.has c xs || queue.has c ys) ≡ true → 1 ≤ queue.times c xs + queue.times c ys
+  some_times xs ys e = by (queue.times c xs + queue.times c ys) refl where
+    by : (n : ℕ) → queue.times c xs + queue.times c ys ≡ n → 1 ≤ queue.times c xs + queue.times c ys
+    by zero z =
+        let a : queue.has c xs ≡ false = lists.none_of_times c xs (omega (arith, z)) in
+        let b : queue.has c ys ≡ false = lists.none_of_times c ys (omega (arith, z)) in
+        absurd (differs (sym e ∙ (λ i. a i || b i))) where
+          differs : true ≡ false → ⊥
+          differs p = cc
+    by (suc n) z = omega (arith, z)
+
+  in_all : queue.is_in c q ≡ true
+  in_all = by (queue.is_in c q) refl where
+    by : (b : Bool) → queue.is_in c q ≡ b → b ≡ true
+    by true e = refl
+    by false e =
+        let parts = lists.or_false (queue.has c q.granted) (queue.has c q.waiting) e in
+        sym (λ i. has_filter c (λ x. is_of lives x) q.granted parts.0 i || has_filter c (λ x. is_of lives x) q.waiting parts.1 i) ∙ found
+
+  left : queue.is_in c (without_lives lives q) ≡ false
+  left =
+      let a = times_parts c lives q.granted in
+      let b = times_parts c lives q.waiting in
+      let most = once in
+      let least = some_times (mine q.granted) (mine q.waiting) found in
+      let none : queue.has c (others q.granted) ≡ false = lists.none_of_times c (others q.granted) (omega arith) in
+      let none2 : queue.has c (others q.waiting) ≡ false = lists.none_of_times c (others q.waiting) (omega arith) in
+      λ i. none i || none2 i
+
+-- a cookie that is taken on some resource, and one that is taken on none
+where_taken : (c : ℕ) (lives : List Who) (rs : List Resource) (es : Entries) → is_among c (taken_on_all lives rs es) ≡ true
+    → (r : Resource) × (is_among c (taken lives (at r es)) ≡ true)
+where_taken c lives [] es h = absurd (cc)
+where_taken c lives (s ∷ rs) es h = by (is_among c (taken lives (at s es))) refl (where_taken c lives rs es) where
+  whole : (is_among c (taken lives (at s es)) || is_among c (taken_on_all lives rs es)) ≡ true
+  whole = sym (list_any-append (λ other. other.0 == c) (taken lives (at s es)) (taken_on_all lives rs es)) ∙ h
+
+  by : (b : Bool) → is_among c (taken lives (at s es)) ≡ b →
+      (is_among c (taken_on_all lives rs es) ≡ true → (r : Resource) × (is_among c (taken lives (at r es)) ≡ true))
+      → (r : Resource) × (is_among c (taken lives (at r es)) ≡ true)
+  by true e rest = (s, e)
+  by false e rest = rest (sym (ap (λ v. v || is_among c (taken_on_all lives rs es)) e) ∙ whole)
+
+taken_nowhere : (c : ℕ) (lives : List Who) (rs : List Resource) (es : Entries) → is_among c (taken_on_all lives rs es) ≡ false →
+    (r : Resource) → list_any (same_resource r) rs ≡ true → is_among c (taken lives (at r es)) ≡ false
+taken_nowhere c lives [] es none r h = absurd (cc)
+taken_nowhere c lives (s ∷ rs) es none r h =
+    let parts = lists.or_false (is_among c (taken lives (at s es))) (is_among c (taken_on_all lives rs es))
+    (sym (list_any-append (λ other. other.0 == c) (taken lives (at s es)) (taken_on_all lives rs es)) ∙ none) in
+    by (same_resource r s) refl h parts.0 (taken_nowhere c lives rs es parts.1 r) where
+      by : (b : Bool) → same_resource r s ≡ b → (b || list_any (same_resource r) rs) ≡ true → is_among c (taken lives (at s es)) ≡ false →
+          (list_any (same_resource r) rs ≡ true → is_among c (taken lives (at r es)) ≡ false) → is_among c (taken lives (at r es)) ≡ false
+      by true same h here rest = subst (λ k. is_among c (taken lives (at k es)) ≡ false) (sym (same_is r s same)) here
+      by false same h here rest = rest h
+
+pub taken_more : (lives : List Who) (rs : List Resource) (es : Entries) (i : ℕ) (d : Resource) (cookies some : List Cookie) → i < length rs →
+    some ≡ taken lives (at (get_or rs i d) es) → cookies ++ taken_on_all lives (drop i rs) es ≡ taken_on_all lives rs es →
+    (cookies ++ some) ++ taken_on_all lives (drop (i + 1) rs) es ≡ taken_on_all lives rs es
+taken_more lives rs es i d cookies some within here before =
+    append_assoc cookies some (taken_on_all lives (drop (i + 1) rs) es)
+    ∙ ap (λ xs. cookies ++ (xs ++ taken_on_all lives (drop (i + 1) rs) es)) here
+    ∙ ap (λ rest. cookies ++ taken_on_all lives rest es) (sym (rest_at rs i d within))
+    ∙ before
+
+pub gone_more : (cookies : List Cookie) (i : ℕ) (d : Cookie) (ps now next : Places) → i < length cookies → AreGone (take i cookies) ps now →
+    ((q : Cookie) → place_of q.0 next ≡ cond (is_eq (nat_cmp (get_or cookies i d).0 q.0)) None (place_of q.0 now))
+    → AreGone (take (i + 1) cookies) ps next
+gone_more cookies i d ps now next within before gone c =
+    let k = (get_or cookies i d).0 in
+    let among : is_among c (take (i + 1) cookies) ≡ (is_among c (take i cookies) || ((k == c) || false)) =
+    ap (is_among c) (take_more cookies i d within) ∙ list_any-append (λ other. other.0 == c) (take i cookies) (get_or cookies i d ∷ []) in
+    gone (record { 0 = c }) ∙ ap (λ b. cond b None (place_of c now)) (eq_at k c)
+    ∙ ap (cond (k == c) None) (before c)
+    ∙ by (is_among c (take i cookies)) (k == c) ∙ sym (ap (λ b. cond b None (place_of c ps)) among) where
+      by : (a b : Bool) → cond b None (cond a None (place_of c ps)) ≡ cond (a || (b || false)) None (place_of c ps)
+      by true true = refl
+      by true false = refl
+      by false true = refl
+      by false false = refl
+
+-- ---- the places that are left
+
+pub indexed_ended : (lives : List Who) (before after ended : Entries) (grants : List Grant) (ps new : Places) → IsIndexed before ps
+    → AreRising after → keys_of ended ≡ changed lives before →
+    AllEnded lives before ended grants → AllReplaced ended before after → IsStrictlySortedBy (λ a b. nat_cmp a.0 b.0) (keys_of new) →
+    AreGone (taken_on_all lives (changed lives before) before) ps new → IsIndexed after new
+indexed_ended lives before after ended grants ps new indexed up same more replaced cookies gone = record {
+  rising = up;
+  queues = queues_after lives before before after ended grants indexed.queues more replaced;
+  placed = placed;
+  cookies = cookies;
+}
+  where
+    differs : true ≡ false → ⊥
+    differs p = cc
+
+    -- what is left of a queue
+    left : (c : ℕ) (r : Resource) → queue.is_in c (at r after) ≡ queue.is_in c (without_lives lives (at r before))
+    left c r = by (list_any (same_resource r) (keys_of ended)) refl where
+      by : (b : Bool) → list_any (same_resource r) (keys_of ended) ≡ b
+          → queue.is_in c (at r after) ≡ queue.is_in c (without_lives lives (at r before))
+      by true h = (left_in lives before before after ended grants more replaced c r).0 h
+      by false h =
+          let none : has_of lives (at r before) ≡ false = not_changed lives before r
+          (subst (λ rs. list_any (same_resource r) rs ≡ false) same h) in
+          ap (queue.is_in c) ((left_in lives before before after ended grants more replaced c r).1 h
+          ∙ sym (without_none lives (at r before) none))
+
+    placed : (c : ℕ) (r : Resource) → queue.is_in c (at r after) ≡ is_place r (place_of c new)
+    placed c r = left c r ∙ by (is_among c all) refl ∙ sym (ap (is_place r) (gone c)) where
+      all : List Cookie
+      all = taken_on_all lives (changed lives before) before
+
+      -- the place of a cookie that is taken
+      elsewhere : (s : Resource) → queue.is_in c (at s before) ≡ true → same_resource r s ≡ false → queue.is_in c (at r before) ≡ false
+      elsewhere s there apart = place (place_of c ps) (indexed.placed c r) (indexed.placed c s) where
+        place : (p : Option Resource) → queue.is_in c (at r before) ≡ is_place r p → queue.is_in c (at s before) ≡ is_place s p
+            → queue.is_in c (at r before) ≡ false
+        place None h k = h
+        place (Some t) h k =
+            let is : s ≡ t = same_is s t (sym k ∙ there) in
+            h ∙ subst (λ u. same_resource r u ≡ false) is apart
+
+      none_left : (s : Resource) (b : Bool) → same_resource r s ≡ b → is_among c (taken lives (at s before)) ≡ true
+          → queue.is_in c (without_lives lives (at r before)) ≡ false
+      none_left s true here h = subst (λ k. queue.is_in c (without_lives lives (at k before)) ≡ false) (sym (same_is r s here))
+          (is_taken c lives (at s before) (indexed.queues s) h).1
+      none_left s false apart h =
+          let there = (is_taken c lives (at s before) (indexed.queues s) h).0 in
+          let none : queue.is_in c (at r before) ≡ false = elsewhere s there apart in
+          by (queue.is_in c (without_lives lives (at r before))) refl none where
+            by : (b : Bool) → queue.is_in c (without_lives lives (at r before)) ≡ b → queue.is_in c (at r before) ≡ false → b ≡ false
+            by true e none = sym (in_lives c lives (at r before) e) ∙ none
+            by false e none = refl
+
+      still_there : is_among c all ≡ false → (b : Bool) → list_any (same_resource r) (changed lives before) ≡ b
+          → queue.is_in c (without_lives lives (at r before)) ≡ queue.is_in c (at r before)
+      still_there none true h = not_taken c lives (at r before) (taken_nowhere c lives (changed lives before) before none r h)
+      still_there none false h = ap (queue.is_in c) (without_none lives (at r before) (not_changed lives before r h))
+
+      by : (b : Bool) → is_among c all ≡ b → queue.is_in c (without_lives lives (at r before)) ≡ is_place r (cond b None (place_of c ps))
+      by true h = let found = where_taken c lives (changed lives before) before h in none_left found.0 (same_resource r found.0) refl found.1
+      by false h = still_there h (list_any (same_resource r) (changed lives before)) refl ∙ indexed.placed c r
+
+-- no queue has locks that it hadn't
+pub all_fewer : (lives : List Who) (before ended : Entries) (grants : List Grant) → AllEnded lives before ended grants → AllFewer ended before
+all_fewer lives before [] grants none = tt
+all_fewer lives before (e ∷ ended) grants (first, rest, all, steps, one, more) =
+    (fewer_ended lives (at e.0 before) first e.1 steps, all_fewer lives before ended rest more)
+
+pub fewer_more : (r : Resource) (now next ended : Entries) → Keeps r now next → Apart r (keys_of ended) → AllFewer ended now
+    → AllFewer ended next
+fewer_more r now next [] keeps apart fewer = tt
+fewer_more r now next (e ∷ ended) keeps apart fewer = (
+  subst (IsFewer e.1) (sym (still r e.0 now next keeps apart.0)) fewer.0,
+  fewer_more r now next ended keeps apart.1 fewer.1,
+)
 
 -- ---- the resources that aren't listed
 

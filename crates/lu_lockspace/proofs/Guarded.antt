@@ -2,11 +2,14 @@
 use Rattle.std.proofs.Common.{◌≡◌, ℕ, ◌+◌, ◌<◌, length, take, drop, get_or, ◌&&◌, ◌||◌, Bool, true, false, not, cond, List, [], ◌∷◌, ◌++◌}
 use Rattle.std.proofs.Common.{map, filter, refl, sym, ◌∙◌, ap, subst, arith, IsPermutation}
 use Rattle.std.specs.List.{list_any, AllByRecursion}
+use Rattle.std.specs.Map.{keys_of}
+use Rattle.std.specs.declared.cmp.Ordering.TheVariants.{Less}
 use Rattle.std.proofs.lemmas.Bool.Decides.{nat_tests}
 use Rattle.std.proofs.lemmas.List.{map-append, append_assoc, take_more}
 use Rattle.std.proofs.lemmas.List.Folds.{list_any-append}
 use Rattle.std.proofs.lemmas.List.Sorted.{IsPermutation-refl, IsPermutation-trans, IsPermutation-append_right, IsPermutation-map}
 use Rattle.std.proofs.lemmas.List.Sorted.{IsPermutation-filter_both}
+use Rattle.std.proofs.lemmas.Map.Keys.{sorted_head, sorted_tail}
 use Rattle.lu_base.specs.declared.ids.Cookie.{Cookie}
 use Rattle.lu_base.specs.declared.ids.Who.{Who}
 use Rattle.lu_base.specs.declared.locks.Lock.{Lock}
@@ -18,10 +21,12 @@ use Rattle.lu_queue.specs.declared.locks.Grant.{Grant}
 use Rattle.lu_queue.proofs.Lists.{or_false}
 use Rattle.lu_base.specs.declared.locks.Mode.TheVariants.{EX}
 use Rattle.lu_lockspace.specs.Spaces.{same_resource, grant_of, grants_on, lock_on, is_guarded}
-use Rattle.lu_lockspace.specs.Entries.{Entries, locks_of, AreRising}
-use Rattle.lu_lockspace.specs.Guarded.{is_listed, AreApart, AreGuards, guarded_on, guarded_on_all}
-use Rattle.lu_queue.specs.Queues.{QueueState, same_who}
-use Rattle.lu_lockspace.proofs.Resources.{same_is, same_turned, part_on}
+use Rattle.lu_lockspace.specs.Entries.{Entries, order, at, locks_of, changed, AreRising}
+use Rattle.lu_lockspace.specs.Guarded.{is_listed, AreApart, AreGuards, guarded_on, guarded_on_all, of_life_on, of_life_on_all}
+use Rattle.lu_queue.specs.Queues.{QueueState, same_who, is_of, has_of}
+use Rattle.lu_lockspace.proofs.Resources.{same_itself, same_is, same_turned, part_on, at_here, at_next}
+use Rattle.lu_lockspace.proofs.Kept.{lower_differs}
+use Rattle.lu_lockspace.proofs.Notes.{life_turned}
 use Rattle.lu_lockspace.proofs.Lists.{rest_at}
 
 abbrev on : Resource → Lock → Bool
@@ -204,18 +209,18 @@ on_more rs parts es i d cookies some within here before =
 abbrev pub of_life : Who → Entries → List Cookie
 of_life who es = map (λ lock. lock.cookie) (filter (λ lock. same_who lock.ask.who who) (locks_of (λ all. all.granted) es))
 
-abbrev pub of_life_on : Who → List Grant → List Cookie
-of_life_on who grants = map (λ lock. lock.cookie) (filter (λ lock. same_who lock.ask.who who) grants)
+abbrev of_grants : Who → List Grant → List Cookie
+of_grants who grants = map (λ lock. lock.cookie) (filter (λ lock. same_who lock.ask.who who) grants)
 
 one_queue : (who : Who) (r : Resource) (grants : List Grant) (rest : List Lock) →
-    map (λ lock. lock.cookie) (filter (λ lock. same_who lock.ask.who who) (map (lock_on r) grants ++ rest)) ≡ of_life_on who grants
+    map (λ lock. lock.cookie) (filter (λ lock. same_who lock.ask.who who) (map (lock_on r) grants ++ rest)) ≡ of_grants who grants
     ++ map (λ lock. lock.cookie) (filter (λ lock. same_who lock.ask.who who) rest)
 one_queue who r [] rest = refl
 one_queue who r (g ∷ grants) rest = by (same_who g.ask.who who) (one_queue who r grants rest) where
   mine : List Lock
   mine = filter (λ lock. same_who lock.ask.who who) (map (lock_on r) grants ++ rest)
 
-  by : (b : Bool) → map (λ lock. lock.cookie) mine ≡ of_life_on who grants
+  by : (b : Bool) → map (λ lock. lock.cookie) mine ≡ of_grants who grants
       ++ map (λ lock. lock.cookie) (filter (λ lock. same_who lock.ask.who who) rest) →
       map (λ lock. lock.cookie) (cond b (lock_on r g ∷ mine) mine)
       ≡ map (λ lock. lock.cookie) (cond b (g ∷ filter (λ lock. same_who lock.ask.who who) grants)
@@ -224,12 +229,60 @@ one_queue who r (g ∷ grants) rest = by (same_who g.ask.who who) (one_queue who
   by true h = ap (λ cs. g.cookie ∷ cs) h
   by false h = h
 
-pub life_more : (who : Who) (es rest : Entries) (r : Resource) (all : QueueState) (cookies some : List Cookie) (whole : List Cookie) → es
-    ≡ (r, all) ∷ rest →
-    some ≡ of_life_on who all.granted → cookies ++ of_life who es ≡ whole → (cookies ++ some) ++ of_life who rest ≡ whole
-life_more who es rest r all cookies some whole first here before =
-    append_assoc cookies some (of_life who rest)
-    ∙ ap (λ xs. cookies ++ (xs ++ of_life who rest)) here
-    ∙ ap (λ xs. cookies ++ xs) (sym (one_queue who r all.granted (locks_of (λ q. q.granted) rest)))
-    ∙ ap (λ xs. cookies ++ of_life who xs) (sym first)
+-- a queue without locks of the life gives none
+none_of : (who : Who) (grants : List Grant) → list_any (is_of (who ∷ [])) grants ≡ false → of_grants who grants ≡ []
+none_of who [] h = refl
+none_of who (g ∷ grants) h =
+    let parts = or_false (is_of (who ∷ []) g) (list_any (is_of (who ∷ [])) grants) h in
+    let other : same_who g.ask.who who ≡ false = life_turned g.ask.who who ∙ (or_false (same_who who g.ask.who) false parts.0).0 in
+    ap (λ b. map (λ lock. lock.cookie) (cond b (g ∷ filter (λ lock. same_who lock.ask.who who) grants)
+    (filter (λ lock. same_who lock.ask.who who) grants))) other ∙ none_of who grants parts.1
+
+-- the queues found by their resources
+abbrev Found : Entries → Entries → Type 0
+Found full es = AllByRecursion (λ (e : Resource × QueueState). at e.0 full ≡ e.1) es
+
+found_later : (first : Resource × QueueState) (full es : Entries) → AllByRecursion (λ r. order first.0 r ≡ Less) (keys_of es)
+    → Found full es → Found (first ∷ full) es
+found_later first full [] above found = tt
+found_later first full (e ∷ es) above found = (
+  at_next e.0 first full (lower_differs first.0 e.0 above.0) ∙ found.0,
+  found_later first full es above.1 found.1,
+)
+
+found_all : (es : Entries) → AreRising es → Found es es
+found_all [] up = tt
+found_all (e ∷ es) up = (
+  at_here e.0 e es (same_itself e.0),
+  found_later e es es (sorted_head order e.0 (keys_of es) up) (found_all es (sorted_tail order e.0 (keys_of es) up)),
+)
+
+life_on : (who : Who) (full es : Entries) → Found full es → of_life_on_all who (changed (who ∷ []) es) full ≡ of_life who es
+life_on who full [] found = refl
+life_on who full (e ∷ es) found = by (has_of (who ∷ []) e.1) refl (life_on who full es found.1) where
+  whole : of_life who (e ∷ es) ≡ of_grants who e.1.granted ++ of_life who es
+  whole = one_queue who e.0 e.1.granted (locks_of (λ q. q.granted) es)
+
+  by : (b : Bool) → has_of (who ∷ []) e.1 ≡ b → of_life_on_all who (changed (who ∷ []) es) full ≡ of_life who es →
+      of_life_on_all who (map (λ f. f.0) (cond b (e ∷ filter (λ f. has_of (who ∷ []) f.1) es) (filter (λ f. has_of (who ∷ []) f.1) es))) full
+      ≡ of_life who (e ∷ es)
+  by true has rest =
+      let here : of_life_on who e.0 full ≡ of_grants who e.1.granted = ap (λ q. of_grants who q.granted) found.0 in
+      (λ i. here i ++ rest i) ∙ sym whole
+  by false has rest =
+      let none : of_grants who e.1.granted ≡ [] = none_of who e.1.granted
+      (or_false (list_any (is_of (who ∷ [])) e.1.granted) (list_any (is_of (who ∷ [])) e.1.waiting) has).0 in
+      rest ∙ sym (ap (λ cs. cs ++ of_life who es) none) ∙ sym whole
+
+-- the locks of a life are on the resources where it has some
+pub life_all : (who : Who) (es : Entries) → AreRising es → of_life_on_all who (changed (who ∷ []) es) es ≡ of_life who es
+life_all who es up = life_on who es es (found_all es up)
+
+pub life_more : (who : Who) (rs : List Resource) (es : Entries) (i : ℕ) (d : Resource) (cookies some : List Cookie) → i < length rs →
+    some ≡ of_life_on who (get_or rs i d) es → cookies ++ of_life_on_all who (drop i rs) es ≡ of_life_on_all who rs es →
+    (cookies ++ some) ++ of_life_on_all who (drop (i + 1) rs) es ≡ of_life_on_all who rs es
+life_more who rs es i d cookies some within here before =
+    append_assoc cookies some (of_life_on_all who (drop (i + 1) rs) es)
+    ∙ ap (λ xs. cookies ++ (xs ++ of_life_on_all who (drop (i + 1) rs) es)) here
+    ∙ ap (λ rest. cookies ++ of_life_on_all who rest es) (sym (rest_at rs i d within))
     ∙ before

@@ -4,4 +4,7 @@ pub mod Laws
 pub mod Ended
 pub mod Lists
 pub mod Guarded
+pub mod Kept
+pub mod Notes
+pub mod NotedLives
 pub mod Waited

@@ -2,10 +2,12 @@
 use Rattle.std.specs.Prelude.{◌≡◌, ⊤, Bool, false, List, [], ◌∷◌, ◌++◌, map, filter}
 use Rattle.std.specs.List.{list_any, AllByRecursion}
 use Rattle.lu_base.specs.declared.ids.Cookie.{Cookie}
+use Rattle.lu_base.specs.declared.ids.Who.{Who}
 use Rattle.lu_base.specs.declared.locks.Resource.{Resource}
 use Rattle.lu_part.specs.declared.parts.Part.{Part}
 use Rattle.lu_part.specs.Guards.{guard}
 use Rattle.lu_queue.specs.declared.locks.Grant.{Grant}
+use Rattle.lu_queue.specs.Queues.{same_who}
 use Rattle.lu_lockspace.specs.Spaces.{same_resource, lock_on, meets_guard}
 use Rattle.lu_lockspace.specs.Entries.{Entries, at}
 
@@ -40,3 +42,12 @@ guarded_on resource parts entries = guarded_in resource parts (at resource entri
 abbrev pub guarded_on_all : List Resource → List Part → Entries → List Cookie
 guarded_on_all [] parts entries = []
 guarded_on_all (resource ∷ resources) parts entries = guarded_on resource parts entries ++ guarded_on_all resources parts entries
+
+-- The cookies of the granted locks of a life on a resource.
+abbrev pub of_life_on : Who → Resource → Entries → List Cookie
+of_life_on who resource entries = map (λ lock. lock.cookie) (filter (λ lock. same_who lock.ask.who who) (at resource entries).granted)
+
+-- Those on some resources.
+abbrev pub of_life_on_all : Who → List Resource → Entries → List Cookie
+of_life_on_all who [] entries = []
+of_life_on_all who (resource ∷ resources) entries = of_life_on who resource entries ++ of_life_on_all who resources entries

@@ -2,3 +2,4 @@ pub mod Spaces
 pub mod Entries
 pub mod Ending
 pub mod Guarded
+pub mod Notes

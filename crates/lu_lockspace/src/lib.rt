@@ -3,7 +3,9 @@
 
 mod ending;
 mod listing;
+mod noted;
 mod queues;
 mod space;
+mod stays;
 
 pub use space::{Lockspace, SpaceError};

@@ -3,7 +3,8 @@
 ghost use Rattle.std.specs.Prelude.{◌≡◌, ℕ, ◌+◌, ◌<◌, ◌≤◌, ◌&&◌, not, false, List, [], IfOk, map, filter, length, slice_index_or, IsPermutation};
 ghost use Rattle.std.specs.List.{list_any};
 ghost use Rattle.lu_lock.specs.Conflict.{conflict};
-ghost use Rattle.lu_queue.specs.Queues.{lock_of, same_who, IsRising, IsOnce};
+ghost use Rattle.lu_queue.specs.Queues.{lock_of, same_who, is_of, IsRising, IsOnce};
+ghost use Rattle.lu_lockspace.specs.Ending.{cookies_of, taken};
 ghost use Rattle.std.specs.Option.{option_map};
 ghost use Rattle.lu_lockspace.specs.Spaces.{lock_on, is_guarded, meets_guard, is_told, blocking_more, AreInOrder, AreBlocking, AreBlockers};
 ghost use Rattle.lu_base.specs.declared.locks.Resource.{Resource};
@@ -53,6 +54,35 @@ pub(crate) fn of_life(alloc: Global, locks: &[Grant], who: Who) -> Result<Vec<Co
         .filter(|lock| lock.ask.who == who)
         .map(|lock| lock.cookie)
         .collect(alloc)?;
+    Ok(cookies)
+}
+
+/// Whether a lock is of one of these lives.
+fn is_of(lives: &[Who], lock: &Grant) -> bool
+    ensures { result ≡ is_of lives.now lock.now }
+{
+    lives.iter().any(|who| *who == lock.ask.who)
+}
+
+/// The cookies of the locks of these lives in a list.
+fn of_lives(alloc: Global, locks: &[Grant], lives: &[Who]) -> Result<Vec<Cookie>, Memory>
+    ensures { IfOk result (λ cookies. cookies.items ≡ cookies_of lives.now locks.now) }
+{
+    let cookies = locks
+        .iter()
+        .filter(|lock| is_of(lives, lock))
+        .map(|lock| lock.cookie)
+        .collect(alloc)?;
+    Ok(cookies)
+}
+
+/// The cookies of the locks of these lives in a queue, granted and waiting.
+pub(crate) fn taken_in(alloc: Global, queue: &Queue, lives: &[Who]) -> Result<Vec<Cookie>, Memory>
+    ensures { IfOk result (λ cookies. cookies.items ≡ taken lives.now queue.now) }
+{
+    let mut cookies = of_lives(alloc, queue.granted_locks(), lives)?;
+    let waiting = of_lives(alloc, &queue.waiting_locks(alloc)?, lives)?;
+    cookies.extend_from_slice(&waiting)?;
     Ok(cookies)
 }
 

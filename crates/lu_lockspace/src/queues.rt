@@ -1,13 +1,12 @@
 //! The queues of a target's resources, each under its resource, in rising Fid and stripe.
 
-ghost use Rattle.std.specs.Prelude.{◌≡◌, [], IfOk, OnOk, OnErr, IsSome, IsTrue, IsPermutation, map, filter};
-ghost use Rattle.std.specs.List.{list_any};
+ghost use Rattle.std.specs.Prelude.{◌≡◌, [], IfOk, OnOk, OnErr, IsSome, IsTrue, IsPermutation};
 ghost use Rattle.std.specs.Option.{option_copied};
 ghost use Rattle.lu_lock.specs.Overlap.{IsOrdered};
-ghost use Rattle.lu_queue.specs.Queues.{empty, lock_under, is_in, placed, with_lock, may_restore, restored, same_who, IsTakenAway, IsQueue};
-ghost use Rattle.lu_lockspace.specs.Guarded.{guarded_on, guarded_on_all};
+ghost use Rattle.lu_queue.specs.Queues.{empty, lock_under, placed, with_lock, may_restore, restored, has_of, IsTakenAway, IsQueue};
+ghost use Rattle.lu_lockspace.specs.Guarded.{guarded_on, guarded_on_all, of_life_on, of_life_on_all};
 ghost use Rattle.lu_lockspace.specs.Spaces.{meets_guard, some_waits, AreBlockers};
-ghost use Rattle.lu_lockspace.specs.Entries.{entry_of, at, changed, waited_on, cookies_that, AreRising, Keeps};
+ghost use Rattle.lu_lockspace.specs.Entries.{entry_of, at, cookies_that, AreRising, Keeps};
 
 use super::listing::{blocking_in, guarded, guards, of_life};
 use lu_base::{Ask, Cookie, Cookies, Memory, Resource, Who};
@@ -150,41 +149,28 @@ impl Queues {
         Err(QueueError::NoLock)
     }
 
-    /// The resources on which one of these lives has a lock, in rising Fid and stripe.
-    pub(crate) fn of_lives(&self, alloc: Global, lives: &[Who]) -> Result<Vec<Resource>, Memory>
-        ensures resources { IfOk result (λ resources. resources.items ≡ changed lives.now self.now) }
-        ensures rising { AreRising self.now }
+    /// The cookies of the granted locks of a life on a resource.
+    fn of_life_on(&self, alloc: Global, resource: Resource, who: Who) -> Result<Vec<Cookie>, Memory>
+        ensures { IfOk result (λ cookies. cookies.items ≡ of_life_on who resource self.now) }
     {
-        let resources = self
-            .entries
-            .iter()
-            .filter(|entry| entry.1.has_of(lives))
-            .map(|entry| *entry.0)
-            .collect(alloc)?;
-        Ok(resources)
-    }
-
-    /// The resources on which a lock waits, in rising Fid and stripe.
-    pub(crate) fn waited_on(&self, alloc: Global) -> Result<Vec<Resource>, Memory>
-        ensures resources { IfOk result (λ resources. resources.items ≡ waited_on self.now) }
-        ensures rising { AreRising self.now }
-    {
-        let mut resources: Vec<Resource> = Vec::new(alloc);
-        for (resource, queue) in &self.entries {
-            if waits(queue) {
-                resources.push(*resource)?;
-            }
+        match self.of(resource) {
+            Some(queue) => of_life(alloc, queue.granted_locks(), who),
+            None => Ok(Vec::new(alloc)),
         }
-        Ok(resources)
     }
 
-    /// The cookies of the granted locks of a life.
-    pub(crate) fn of_life(&self, alloc: Global, who: Who) -> Result<Vec<Cookie>, Memory>
-        ensures { IfOk result (λ cookies. cookies.items ≡ cookies_that (λ lock. same_who lock.ask.who who) self.now) }
+    /// The cookies of the granted locks of a life on these resources.
+    pub(crate) fn of_life(
+        &self,
+        alloc: Global,
+        resources: &[Resource],
+        who: Who,
+    ) -> Result<Vec<Cookie>, Memory>
+        ensures { IfOk result (λ cookies. cookies.items ≡ of_life_on_all who resources.now self.now) }
     {
         let mut cookies: Vec<Cookie> = Vec::new(alloc);
-        for (_, queue) in &self.entries {
-            cookies.extend_from_slice(&of_life(alloc, queue.granted_locks(), who)?)?;
+        for resource in resources {
+            cookies.extend_from_slice(&self.of_life_on(alloc, *resource, who)?)?;
         }
         Ok(cookies)
     }
@@ -241,14 +227,31 @@ impl Queues {
         }
     }
 
-    /// Whether a lock of the queue of a resource has this cookie.
-    pub(crate) fn has(&self, resource: Resource, cookie: Cookie) -> bool
-        ensures { result ≡ is_in cookie.0 (at resource self.now) }
+    /// Whether a lock of the queue of a resource, granted or waiting, is of one of these lives.
+    pub(crate) fn has_of(&self, resource: Resource, lives: &[Who]) -> bool
+        ensures { result ≡ has_of lives.now (at resource self.now) }
     {
         match self.of(resource) {
-            Some(queue) => queue.has(cookie),
+            Some(queue) => queue.has_of(lives),
             None => false,
         }
+    }
+
+    /// Whether a lock waits on a resource.
+    pub(crate) fn waits(&self, resource: Resource) -> bool
+        ensures { result ≡ some_waits (at resource self.now) }
+    {
+        match self.of(resource) {
+            Some(queue) => waits(queue),
+            None => false,
+        }
+    }
+
+    /// Whose the lock of a cookie on a resource is.
+    pub(crate) fn who_of(&self, resource: Resource, cookie: Cookie) -> Option<Who> {
+        let queue = self.of(resource)?;
+        let lock = queue.find(cookie)?;
+        Some(lock.ask.who)
     }
 
     /// Puts another queue in the place of the one of a resource.

@@ -8,9 +8,9 @@ ghost use Rattle.lu_queue.specs.Queues.{lock_under, placed, with_lock, may_resto
 ghost use Rattle.lu_lockspace.specs.Entries.{IsPlaced};
 ghost use Rattle.lu_lockspace.specs.Spaces.{empty, is_in, has, lock_of, grant_of, queue_of, KeepsOthers, IsSpace, IsCancelled, AreCancelled, IsAt, AreCookiesOf, meets_guard, AreBlockers, AreWaitedOn};
 
-use super::ending::{ended, replace_all};
+use super::ending::{ended, forget, replace_all, taken};
 use super::listing::{lock_in, lock_on, sorted};
-use super::queues::Queues;
+use super::noted::Noted;
 use lu_base::{Ask, Cookie, Cookies, Lock, Memory, Resource, Resources, Who};
 use lu_part::Parts;
 use lu_queue::{Grants, Placed, Queue};
@@ -44,7 +44,7 @@ impl From<Memory> for SpaceError {
 pub struct Lockspace {
     /// On which resource the lock of a cookie is.
     places: BTreeMap<Cookie, Resource>,
-    queues: Queues,
+    queues: Noted,
 }
 
 impl Model for Lockspace {
@@ -66,7 +66,7 @@ impl Lockspace {
     {
         Lockspace {
             places: BTreeMap::new(alloc),
-            queues: Queues::new(alloc),
+            queues: Noted::new(alloc),
         }
     }
 
@@ -170,12 +170,13 @@ impl Lockspace {
         ensures kept { OnErr result (self.new ≡ self.old) }
         ensures lawful { IsSpace self.new }
     {
-        let resources = self.queues.of_lives(alloc, lives)?;
+        let stays = self.queues.stays(alloc, lives)?;
+        let resources = self.queues.of_lives(alloc, lives, &stays)?;
+        let cookies = taken(alloc, &self.queues, lives, &resources)?;
         let (queues, grants) = ended(alloc, &self.queues, lives, &resources)?;
         replace_all(&mut self.queues, queues);
-        let queues = &self.queues;
-        self.places
-            .retain(|cookie, resource| queues.has(*resource, *cookie));
+        self.queues.tidy_all(&stays);
+        forget(&mut self.places, &cookies);
         Ok(grants)
     }
 

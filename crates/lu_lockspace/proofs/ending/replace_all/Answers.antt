@@ -3,7 +3,8 @@ use Rattle.std.proofs.Common.{◌≡◌, ◌∙◌, [], ◌∷◌, ◌++◌, Lis
 use Rattle.std.specs.Map.{keys_of}
 use Rattle.std.specs.Option.{option_to_list}
 use Rattle.lu_lockspace.specs.Ending.{AllThere, AllReplaced}
-use Rattle.lu_lockspace.proofs.Ended.{there_more}
+use Rattle.lu_lockspace.specs.Notes.{AllFewer}
+use Rattle.lu_lockspace.proofs.Ended.{there_more, fewer_more}
 use Rattle.lu_lockspace.proofs.ending.replace_all.Goals as goal
 
 -- what loses nothing with its first is empty
@@ -13,8 +14,13 @@ none_left (x ∷ xs) ys same rest =
     let shorter : length (x ∷ xs) ≡ length xs = ap length (same ∙ rest) in
     absurd (omega (arith, shorter))
 
-pub replace-requires : goal.replace-requires
-replace-requires c = (subst (λ es. AllThere c.loop-resource.queues (keys_of es)) c.in-Some.ensures.items c.loop-resource.invariant.1).0
+pub replace-requires-clause-there : goal.replace-requires-clause-there
+replace-requires-clause-there c =
+    (subst (λ es. AllThere c.loop-resource.queues (keys_of es)) c.in-Some.ensures.items c.loop-resource.invariant.1).0
+
+pub replace-requires-clause-fewer : goal.replace-requires-clause-fewer
+replace-requires-clause-fewer c =
+    (subst (λ es. AllFewer es c.loop-resource.queues) c.in-Some.ensures.items c.loop-resource.invariant.3).0
 
 pub loop-resource-preserved : goal.loop-resource-preserved
 loop-resource-preserved c =
@@ -25,6 +31,8 @@ loop-resource-preserved c =
       there_more c.in-Some.resource c.loop-resource.queues c.replace.new.self (keys_of c.pop_front.new.self.items) c.replace.ensures.others
           there.1 there.2,
       c.replace.ensures.rising,
+      fewer_more c.in-Some.resource c.loop-resource.queues c.replace.new.self c.pop_front.new.self.items c.replace.ensures.others there.1
+          (subst (λ es. AllFewer es c.loop-resource.queues) c.in-Some.ensures.items c.loop-resource.invariant.3).1,
     )
 
 pub returns-clause-replaced : goal.returns-clause-replaced

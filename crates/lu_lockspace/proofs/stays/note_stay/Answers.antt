@@ -1,0 +1,6 @@
+-- Other notes stay.
+use Rattle.lu_lockspace.proofs.Notes.{kept_more}
+use Rattle.lu_lockspace.proofs.stays.note_stay.Goals as goal
+
+pub returns-clause-others : goal.returns-clause-others
+returns-clause-others c = λ s h. kept_more _ _ _ (c.in_ok-insert.ensures.updates.0 s) h
