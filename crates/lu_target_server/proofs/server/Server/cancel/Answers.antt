@@ -10,7 +10,7 @@ use Rattle.lu_target_server.specs.Releases.{IsGivenBack, IsReturn}
 use Rattle.lu_target_server.specs.Servers.{ServerState, Shows}
 use Rattle.lu_target_server.proofs.Cancels.{may_release_back, names_after, queue_after, goes_names, goes_objects, over_names, over_cancels}
 use Rattle.lu_target_server.proofs.Cancels.{cancels}
-use Rattle.lu_target_server.proofs.OfKind.{waits_names, waits_objects, names_id, objects_id, part_kind}
+use Rattle.lu_target_server.proofs.OfKind.{waits_names, waits_objects, names_id, objects_id}
 use Rattle.lu_target_server.proofs.Rooms.{room_made}
 use Rattle.lu_spec_target.specs.Requests.{row_cancel}
 use Rattle.lu_target_server.proofs.server.Server.cancel.Goals as goal
@@ -33,20 +33,8 @@ release-requires g c =
 
 pub names_go-requires-clause-names : goal.names_go-requires-clause-names
 names_go-requires-clause-names g c =
-    let s = c.args.self.now in
-    let back = c.take_back.new.self in
-    let ended = c.in-Some.ended in
-    let granted = c.in-Some.granted in
-    let is_back : IsGivenBack c.args.who c.args.cookie ended granted s.locks back.locks =
-    subst (λ o. IsReturn c.args.who c.args.cookie o s.locks back.locks) c.in-Some.is c.in_ok-ended.ensures.back in
     let released = c.release.new.self in
-    let part : (v : Target) → Shows s v → MakesPart (releases c.args.turn.now.at ended.lock v) v back released c.args.turn.now
-    c.release.new.turn =
-    (λ v shows. c.in_ok-release.ensures.released v (may_release_back s back v c.args.who c.args.cookie ended granted shows
-    c.take_back.ensures.same is_back)) in
-    let same : released.kind ≡ g.S.Service.kind = part_kind (releases c.args.turn.now.at ended.lock c.requires.stands.0) c.requires.stands.0
-    s back released c.args.turn.now c.release.new.turn c.requires.stands.1 (part c.requires.stands.0 c.requires.stands.1)
-    ∙ ap (λ (x : ServerState). x.kind) (sym c.self.view_is) in
+    let same : released.kind ≡ g.S.Service.kind = ap (λ (x : ServerState). x.kind) (sym c.self.view_is) in
     let kind : released.kind ≡ Mdt = same
     ∙ waits_names c.requests_wait.result g.S.Service.kind c.requests_wait.ensures.waits c.if-requests_wait.true in
     kind
@@ -64,9 +52,7 @@ names_go-requires-clause-stands g c =
     c.release.new.turn =
     (λ v shows. c.in_ok-release.ensures.released v (may_release_back s back v c.args.who c.args.cookie ended granted shows
     c.take_back.ensures.same is_back)) in
-    let same : released.kind ≡ g.S.Service.kind = part_kind (releases c.args.turn.now.at ended.lock c.requires.stands.0) c.requires.stands.0
-    s back released c.args.turn.now c.release.new.turn c.requires.stands.1 (part c.requires.stands.0 c.requires.stands.1)
-    ∙ ap (λ (x : ServerState). x.kind) (sym c.self.view_is) in
+    let same : released.kind ≡ g.S.Service.kind = ap (λ (x : ServerState). x.kind) (sym c.self.view_is) in
     let kind : released.kind ≡ Mdt = same
     ∙ waits_names c.requests_wait.result g.S.Service.kind c.requests_wait.ensures.waits c.if-requests_wait.true in
     let v = c.requires.stands.0 in
@@ -89,9 +75,7 @@ returns-then-requests_wait-clause-makes g c =
     c.release.new.turn =
     (λ v shows. c.in_ok-release.ensures.released v (may_release_back s back v c.args.who c.args.cookie ended granted shows
     c.take_back.ensures.same is_back)) in
-    let same : released.kind ≡ g.S.Service.kind = part_kind (releases c.args.turn.now.at ended.lock c.requires.stands.0) c.requires.stands.0
-    s back released c.args.turn.now c.release.new.turn c.requires.stands.1 (part c.requires.stands.0 c.requires.stands.1)
-    ∙ ap (λ (x : ServerState). x.kind) (sym c.self.view_is) in
+    let same : released.kind ≡ g.S.Service.kind = ap (λ (x : ServerState). x.kind) (sym c.self.view_is) in
     let kind : released.kind ≡ Mdt = same
     ∙ waits_names c.requests_wait.result g.S.Service.kind c.requests_wait.ensures.waits c.if-requests_wait.true in
     let test = names_id released.id released.kind (part c.requires.stands.0 c.requires.stands.1).shows.kind kind in
@@ -104,20 +88,8 @@ returns-then-requests_wait-clause-makes g c =
 
 pub queue_goes-requires-clause-objects : goal.queue_goes-requires-clause-objects
 queue_goes-requires-clause-objects g c =
-    let s = c.args.self.now in
-    let back = c.take_back.new.self in
-    let ended = c.in-Some.ended in
-    let granted = c.in-Some.granted in
-    let is_back : IsGivenBack c.args.who c.args.cookie ended granted s.locks back.locks =
-    subst (λ o. IsReturn c.args.who c.args.cookie o s.locks back.locks) c.in-Some.is c.in_ok-ended.ensures.back in
     let released = c.release.new.self in
-    let part : (v : Target) → Shows s v → MakesPart (releases c.args.turn.now.at ended.lock v) v back released c.args.turn.now
-    c.release.new.turn =
-    (λ v shows. c.in_ok-release.ensures.released v (may_release_back s back v c.args.who c.args.cookie ended granted shows
-    c.take_back.ensures.same is_back)) in
-    let same : released.kind ≡ g.S.Service.kind = part_kind (releases c.args.turn.now.at ended.lock c.requires.stands.0) c.requires.stands.0
-    s back released c.args.turn.now c.release.new.turn c.requires.stands.1 (part c.requires.stands.0 c.requires.stands.1)
-    ∙ ap (λ (x : ServerState). x.kind) (sym c.self.view_is) in
+    let same : released.kind ≡ g.S.Service.kind = ap (λ (x : ServerState). x.kind) (sym c.self.view_is) in
     let kind : released.kind ≡ Ost = same
     ∙ waits_objects c.requests_wait.result g.S.Service.kind c.requests_wait.ensures.waits c.if-requests_wait.false in
     kind
@@ -155,9 +127,7 @@ returns-clause-makes g c =
     c.release.new.turn =
     (λ v shows. c.in_ok-release.ensures.released v (may_release_back s back v c.args.who c.args.cookie ended granted shows
     c.take_back.ensures.same is_back)) in
-    let same : released.kind ≡ g.S.Service.kind = part_kind (releases c.args.turn.now.at ended.lock c.requires.stands.0) c.requires.stands.0
-    s back released c.args.turn.now c.release.new.turn c.requires.stands.1 (part c.requires.stands.0 c.requires.stands.1)
-    ∙ ap (λ (x : ServerState). x.kind) (sym c.self.view_is) in
+    let same : released.kind ≡ g.S.Service.kind = ap (λ (x : ServerState). x.kind) (sym c.self.view_is) in
     let kind : released.kind ≡ Ost = same
     ∙ waits_objects c.requests_wait.result g.S.Service.kind c.requests_wait.ensures.waits c.if-requests_wait.false in
     let test = objects_id released.id released.kind (part c.requires.stands.0 c.requires.stands.1).shows.kind kind in
@@ -184,9 +154,7 @@ returns-then-requests_wait-clause-numbers g c =
     c.release.new.turn =
     (λ v shows. c.in_ok-release.ensures.released v (may_release_back s back v c.args.who c.args.cookie ended granted shows
     c.take_back.ensures.same is_back)) in
-    let same : released.kind ≡ g.S.Service.kind = part_kind (releases c.args.turn.now.at ended.lock c.requires.stands.0) c.requires.stands.0
-    s back released c.args.turn.now c.release.new.turn c.requires.stands.1 (part c.requires.stands.0 c.requires.stands.1)
-    ∙ ap (λ (x : ServerState). x.kind) (sym c.self.view_is) in
+    let same : released.kind ≡ g.S.Service.kind = ap (λ (x : ServerState). x.kind) (sym c.self.view_is) in
     let kind : released.kind ≡ Mdt = same
     ∙ waits_names c.requests_wait.result g.S.Service.kind c.requests_wait.ensures.waits c.if-requests_wait.true in
     let test = names_id released.id released.kind (part c.requires.stands.0 c.requires.stands.1).shows.kind kind in
