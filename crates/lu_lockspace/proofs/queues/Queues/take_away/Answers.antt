@@ -1,6 +1,6 @@
 -- The queue is written at its seat.
 use Rattle.std.proofs.Common.{rules, ◌≡◌, ◌∙◌, Some, sym, ap, subst}
-use Rattle.std.specs.Prelude.{IfOk, OnOk}
+use Rattle.std.specs.Prelude.{IfOk}
 use Rattle.slab.specs.Slab.{with_value}
 use Rattle.lu_queue.specs.Queues.{IsTakenAway, IsQueue}
 use Rattle.lu_lockspace.specs.Entries.{entry_of, at, AreRising}
