@@ -1,7 +1,7 @@
 //! The queues of a target's resources. They stand in one slab, and beside it each resource that has locks has its seat,
 //! the key of its queue there; so what is seen is each queue under its resource, in rising Fid and stripe.
 
-ghost use Rattle.std.specs.Prelude.{◌≡◌, [], IfOk, OnOk, OnErr, IsSome, IsTrue, IsPermutation};
+ghost use Rattle.std.specs.Prelude.{◌≡◌, [], IfOk, OnOk, OnErr, None, IsSome, IsTrue, IsPermutation};
 ghost use Rattle.std.specs.Option.{option_copied};
 ghost use Rattle.lu_lock.specs.Overlap.{IsOrdered};
 ghost use Rattle.lu_queue.specs.Queues.{empty, lock_under, placed, with_lock, may_restore, restored, has_of, IsTakenAway, IsQueue};
@@ -311,6 +311,7 @@ impl Queues {
 
     /// Adds the queue of a resource that has none. After want of memory nothing has changed.
     fn begin(&mut self, resource: Resource, queue: Queue) -> Result<(), Memory>
+        requires { entry_of resource self.old ≡ None }
         ensures here { OnOk result (at resource self.new ≡ queue) }
         ensures others { Keeps resource self.old self.new }
         ensures kept { OnErr result (self.new ≡ self.old) }

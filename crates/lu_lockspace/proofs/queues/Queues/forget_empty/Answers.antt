@@ -15,7 +15,7 @@ remove-requires-in-Some c = c.self.invariant.there c.args.resource c.in-Some.sea
 pub invariant_of-self : goal.invariant_of-self
 invariant_of-self c = seated_left c.args.resource c.self.inside.seats.entries c.remove.new.self.entries c.self.inside.queues
     c.remove-in-Some.new.self c.in-Some.seat c.self.invariant (sym c.in-Some.ensures.value) c.remove-in-Some.ensures.updates.others
-    c.in-Some.ensures.ordered c.in-Some.ensures.updates.0
+    c.in-Some.ensures.ordered c.in-Some.ensures.updates.0 c.remove-in-Some.ensures.len c.in-Some.ensures.len
 
 pub returns-in-Some-clause-here : goal.returns-in-Some-clause-here
 returns-in-Some-clause-here c = at_left c.args.resource c.self.inside.seats.entries c.remove.new.self.entries c.remove-in-Some.new.self

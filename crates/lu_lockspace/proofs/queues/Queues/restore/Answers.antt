@@ -5,7 +5,7 @@ use Rattle.slab.specs.Slab.{with_value}
 use Rattle.lu_queue.specs.Queues.{empty, lock_under, may_restore, restored, QueueState, IsQueue}
 use Rattle.lu_lockspace.specs.Entries.{entry_of, at, AreRising}
 use Rattle.lu_lockspace.specs.Seats.{seat_of, seated}
-use Rattle.lu_lockspace.proofs.Seats.{at_seated, at_unseated, rising_seated, at_with, keeps_with}
+use Rattle.lu_lockspace.proofs.Seats.{none_seated, at_seated, at_unseated, rising_seated, at_with, keeps_with}
 use Rattle.lu_lockspace.proofs.queues.Queues.restore.Goals as goal
 
 pub index_mut-requires : goal.index_mut-requires
@@ -62,6 +62,10 @@ returns-in-Some-clause-rising c = rising_seated c.self.inside.seats.entries
 pub returns-in_err-restored-clause-rising : goal.returns-in_err-restored-clause-rising
 returns-in_err-restored-clause-rising c = subst AreRising c.self.view_is
     (rising_seated c.self.inside.seats.entries c.self.inside.queues c.self.invariant.rising)
+
+pub begin-requires : goal.begin-requires
+begin-requires c = sym (ap (entry_of c.args.resource) c.self.view_is)
+    ∙ none_seated c.args.resource c.self.inside.seats.entries c.self.inside.queues (sym c.in_default.ensures.value)
 
 pub returns-clause-restored : goal.returns-clause-restored
 returns-clause-restored c =
