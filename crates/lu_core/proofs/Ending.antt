@@ -21,7 +21,7 @@ use Rattle.lu_spec_laws.specs.Lawful.{Lawful, IsLawful}
 use Rattle.lu_spec_run.specs.Heads.{Head}
 use Rattle.lu_spec_run.specs.Runs.{has_failed}
 use Rattle.lu_spec_run.specs.Scenarios.{Config, Disks, head_of, past_of, Leads, start}
-use Rattle.lu_core.proofs.LawfulScenes.{scene_lawful}
+use Rattle.lu_core.proofs.LawfulScenes.{whichever_lawful}
 use Rattle.lu_spec_run.specs.Limits.{KeepsLimits}
 use Rattle.lu_proof_run.specs.Steps.{LeadsTo, none_failing}
 use Rattle.lu_proof_run.proofs.Turning.{none_leads, breaks_next}
@@ -244,13 +244,13 @@ is_played scene p played rest ended count trace =
 
 pub is_lawful : (scene : Scene) (p : PlayerState) (ended : End) (failed : Option TargetId) (trace : Trace) → KeepsLimits scene
     → IsEnded scene p ended failed
-    → trace ≡ record { osts = scene.head.osts; entries = p.wire.entries } → failed ≡ None → IsLawful trace
-is_lawful scene p ended failed trace limits is same none =
+    → trace ≡ record { osts = scene.head.osts; entries = p.wire.entries } → IsLawful trace
+is_lawful scene p ended failed trace limits is same =
     let past = past_of is.config in
     let entries : reverse p.wire.entries ≡ printed past = ap reverse is.wire.entries ∙ reverse-reverse (printed past) in
     subst IsLawful (sym same)
     (subst (λ (lines : List PrintedLine). Lawful scene.head.osts lines) (sym entries)
-    (scene_lawful scene limits is.disks is.config is.leads (is.unfailed none)))
+    (whichever_lawful scene limits is.disks is.config is.leads))
 
 pub some_rose : (scene : Scene) (p : PlayerState) (t : ℕ) (rest : List DiskState) → HasBroken scene t p
     → SomeRose scene (disks_of p.nodes ++ rest)
@@ -293,7 +293,7 @@ module _ {D : Type 0} (view : D → DiskState) (scene : Scene) (p : PlayerState)
   pub ran_lawful : {E : Type 0} (result : Result Played E) → KeepsLimits scene
       → IfOk result (λ played. played.trace ≡ record { osts = scene.head.osts; entries = p.wire.entries })
       → IfOk result (λ played. EndsWith came played.end played.failed)
-      → IfOk result (λ played. played.failed ≡ None → IsLawful played.trace)
+      → IfOk result (λ played. IsLawful played.trace)
   ran_lawful (Ok played) limits trace ended =
       is_lawful scene p played.end played.failed played.trace limits (comes_ended scene p came played.end played.failed ran.comes ended)
       trace

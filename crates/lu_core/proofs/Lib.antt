@@ -11,4 +11,4 @@ mod Telling
 mod Starting
 mod Performing
 mod Ending
-pub use Rattle.lu_proof_scenes.proofs.Stated as LawfulScenes
+pub use Rattle.lu_proof_scenes.proofs.Whichever as LawfulScenes

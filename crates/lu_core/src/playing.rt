@@ -49,8 +49,8 @@ pub fn play<D: Disk + Drop>(
     ensures back { OnOk result (AreBack scene.now
         (map (λ d. record { batches = D.batches d; faults = D.faults d }) disks.old.items)
         (map (λ d. record { batches = D.batches d; faults = D.faults d }) disks.new.items)) }
-    // Where no disk failed the trace is lawful.
-    ensures lawful { IfOk result (λ played. played.failed ≡ None → IsLawful played.trace) }
+    // It is lawful, also where the failure of a disk ended the run.
+    ensures lawful { IfOk result (λ played. IsLawful played.trace) }
     // Where all turns are foreseen, a disk failed.
     ensures unforeseen { result ≡ Err play_fault.Unforeseen → AllForeseen scene.now
         → SomeRose scene.now (map (λ d. record { batches = D.batches d; faults = D.faults d }) disks.new.items) }

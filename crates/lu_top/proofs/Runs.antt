@@ -58,5 +58,5 @@ module _ (performance : Performance) (left rest : Option (List ℕ)) (held : Lis
             run = subst (λ (s : Scene). IsPlayed s out.0 held) (one ∙ ap storm_of (sym same)) out.1;
             whole = out.3.0;
             wrote = subst (λ (k : ℕ). Appends old new (summary_text k out.0.trace.entries)) (sym same) out.3.1;
-            lawful = out.2 out.3.0;
+            lawful = out.2;
           }

@@ -53,13 +53,13 @@ abbrev pub text_by : Performance → Played → List ℕ
 text_by Play played = trace_text played.trace played.end
 text_by (Storm seed) played = summary_text seed played.trace.entries
 
--- A run of the scenario of a performance, with what the source had and has left, and with what the disks hold then. Where no
--- disk failed its trace is lawful.
+-- A run of the scenario of a performance, with what the source had and has left, and with what the disks hold then. Its trace
+-- is lawful, also where a disk failed.
 pub record IsRunOf (performance : Performance) (left rest : Option (List ℕ)) (held : List DiskState) (played : Played) : Type 0 where
   pub scene : Scene
   pub is : IsSceneBy performance left rest scene
   pub run : IsPlayed scene played held
-  pub lawful : played.failed ≡ None → IsLawful played.trace
+  pub lawful : IsLawful played.trace
 
 -- some run of a performance, in which this disk failed or none, and this holds of what is written of it
 abbrev pub WroteOf : Performance → Option (List ℕ) → Option (List ℕ) → List DiskState → Option TargetId → (List ℕ → Type 0) → Type 0
@@ -121,7 +121,7 @@ abbrev pub IsOutcome : Performance → Scene → List DiskState → Option (List
 IsOutcome performance scene held old new before now status.Unforeseen = WasTold old new before now unforeseen_text
 IsOutcome performance scene held old new before now status.Memory = Unit {0}
 IsOutcome performance scene held old new before now answer =
-    (played : Played) × IsPlayed scene played held × (played.failed ≡ None → IsLawful played.trace)
+    (played : Played) × IsPlayed scene played held × IsLawful played.trace
     × IsWritten performance played old new before now answer
 
 -- ---- answers
