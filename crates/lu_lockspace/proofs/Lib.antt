@@ -1,4 +1,5 @@
 pub mod Resources
+pub mod Seats
 pub mod Places
 pub mod Laws
 pub mod Ended

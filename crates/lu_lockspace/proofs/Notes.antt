@@ -15,7 +15,6 @@ use Rattle.lu_queue.specs.declared.locks.Grant.{Grant}
 use Rattle.lu_queue.specs.Queues as queue
 use Rattle.lu_queue.specs.Queues.{QueueState, same_who, is_of, has_of, has_to_wait, as_granted, with_lock, may_restore, restored, without}
 use Rattle.lu_queue.specs.Queues.{without_lives, IsGranted, AreGranted}
-use Rattle.lu_queue.proofs.Lists as lists
 use Rattle.lu_lockspace.specs.declared.stays.Stay.{Stay}
 use Rattle.lu_lockspace.specs.Spaces.{same_resource, some_waits}
 use Rattle.lu_lockspace.specs.Entries.{Entries, order, at, AreRising, Keeps}

@@ -1,6 +1,7 @@
-//! The queues of a target's resources, each under its resource, in rising Fid and stripe.
+//! The queues of a target's resources. They stand in one slab, and beside it each resource that has locks has its seat,
+//! the key of its queue there; so what is seen is each queue under its resource, in rising Fid and stripe.
 
-ghost use Rattle.std.specs.Prelude.{◌≡◌, [], IfOk, OnOk, OnErr, IsSome, IsTrue, IsPermutation};
+ghost use Rattle.std.specs.Prelude.{◌≡◌, [], IfOk, OnOk, OnErr, None, IsSome, IsTrue, IsPermutation};
 ghost use Rattle.std.specs.Option.{option_copied};
 ghost use Rattle.lu_lock.specs.Overlap.{IsOrdered};
 ghost use Rattle.lu_queue.specs.Queues.{empty, lock_under, placed, with_lock, may_restore, restored, has_of, IsTakenAway, IsQueue};
@@ -12,6 +13,7 @@ use super::listing::{blocking_in, guarded, guards, of_life};
 use lu_base::{Ask, Cookie, Cookies, Memory, Resource, Who};
 use lu_part::Part;
 use lu_queue::{Grants, Placed, Queue, QueueError};
+use slab::Slab;
 use std::alloc::Global;
 use std::collections::BTreeMap;
 use std::marker::Model;
@@ -27,17 +29,21 @@ fn waits(queue: &Queue) -> bool
 /// The queues of the resources that have locks.
 #[derive(Debug, Drop)]
 pub(crate) struct Queues {
-    entries: BTreeMap<Resource, Queue>,
+    /// The seat of each resource that has locks.
+    seats: BTreeMap<Resource, usize>,
+    /// The queues, each at its seat.
+    queues: Slab<Queue>,
 }
 
 impl Model for Queues {
-    ghost use Rattle.lu_lockspace.specs.Entries.{Entries, AreRising};
+    ghost use Rattle.lu_lockspace.specs.Entries.{Entries};
+    ghost use Rattle.lu_lockspace.specs.Seats.{seated, IsSeated};
 
     ghost Value = { Entries };
 
-    ghost view = { λ queues. queues.entries.entries };
+    ghost view = { λ queues. seated queues.seats.entries queues.queues };
 
-    ghost invariant = { λ queues. AreRising queues.entries.entries };
+    ghost invariant = { λ queues. IsSeated queues.seats.entries queues.queues };
 }
 
 impl Queues {
@@ -46,7 +52,8 @@ impl Queues {
         ensures empty { result ≡ [] }
     {
         Queues {
-            entries: BTreeMap::new(alloc),
+            seats: BTreeMap::new(alloc),
+            queues: Slab::new(alloc),
         }
     }
 
@@ -54,7 +61,8 @@ impl Queues {
     pub(crate) fn of(&self, resource: Resource) -> Option<&Queue>
         ensures found { option_copied result ≡ entry_of resource self.now }
     {
-        self.entries.get(&resource)
+        let seat = self.seats.get(&resource)?;
+        Some(&self.queues[*seat])
     }
 
     /// Adds a lock that is asked for to the queue of a resource. After an error nothing has changed.
@@ -73,8 +81,8 @@ impl Queues {
         ensures lawful { OnOk result (IsQueue (at resource self.new)) }
         ensures rising { AreRising self.new }
     {
-        if let Some(queue) = self.entries.get_mut(&resource) {
-            return queue.enqueue(alloc, cookie, ask);
+        if let Some(seat) = self.seats.get(&resource) {
+            return self.queues[*seat].enqueue(alloc, cookie, ask);
         }
         let mut queue = Queue::new(alloc);
         let placed = queue.enqueue(alloc, cookie, ask)?;
@@ -100,8 +108,8 @@ impl Queues {
         ensures lawful { OnOk result (IsQueue (at resource self.new)) }
         ensures rising { AreRising self.new }
     {
-        if let Some(queue) = self.entries.get_mut(&resource) {
-            return queue.restore(alloc, cookie, ask);
+        if let Some(seat) = self.seats.get(&resource) {
+            return self.queues[*seat].restore(alloc, cookie, ask);
         }
         let mut queue = Queue::new(alloc);
         let restored = queue.restore(alloc, cookie, ask)?;
@@ -143,8 +151,8 @@ impl Queues {
         ensures lawful { OnOk result (IsQueue (at resource self.new)) }
         ensures rising { AreRising self.new }
     {
-        if let Some(queue) = self.entries.get_mut(&resource) {
-            return queue.cancel(alloc, cookie);
+        if let Some(seat) = self.seats.get(&resource) {
+            return self.queues[*seat].cancel(alloc, cookie);
         }
         Err(QueueError::NoLock)
     }
@@ -271,10 +279,10 @@ impl Queues {
         ensures here { at resource self.new ≡ queue }
         ensures others { Keeps resource self.old self.new }
     {
-        let Some(old) = self.entries.get_mut(&resource) else {
+        let Some(seat) = self.seats.get(&resource) else {
             return;
         };
-        *old = queue;
+        self.queues[*seat] = queue;
     }
 
     /// Whether the queue of a resource is there and has no locks.
@@ -294,20 +302,24 @@ impl Queues {
         ensures rising { AreRising self.new }
     {
         if !self.is_empty(resource) {
-            let _ = self.entries.len();
             return;
         }
-        self.entries.remove(&resource);
+        if let Some(seat) = self.seats.remove(&resource) {
+            self.queues.remove(seat);
+        }
     }
 
     /// Adds the queue of a resource that has none. After want of memory nothing has changed.
     fn begin(&mut self, resource: Resource, queue: Queue) -> Result<(), Memory>
+        requires { entry_of resource self.old ≡ None }
         ensures here { OnOk result (at resource self.new ≡ queue) }
         ensures others { Keeps resource self.old self.new }
         ensures kept { OnErr result (self.new ≡ self.old) }
         ensures rising { AreRising self.new }
     {
-        self.entries.insert(resource, queue)?;
+        self.queues.reserve(1)?;
+        self.seats.insert(resource, self.queues.vacant_key())?;
+        self.queues.insert_reserved(queue);
         Ok(())
     }
 }

@@ -1,6 +1,7 @@
 //! The service of the metadata target.
 #![tactic(auto)]
 
+mod accepting;
 mod mdts;
 pub mod theorems;
 

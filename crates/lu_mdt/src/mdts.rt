@@ -3,7 +3,8 @@
 ghost use Rattle.std.specs.Prelude.{◌≡◌, ◌≤◌, IfOk, refl};
 ghost use Rattle.lu_service.specs.Names.{fresh};
 
-use lu_base::{Bytes, Extent, Memory, Resource, Txn, Who};
+use super::accepting::is_named;
+use lu_base::{Bytes, Extent, Lock, Memory, Mode, Resource, Txn, Who};
 use lu_msg::{Answer, Op};
 use lu_part::{Parts, Wants};
 use lu_service::Service;
@@ -82,5 +83,21 @@ impl Service for Mdt {
 
     fn read(&self, alloc: Global, _resource: Resource, _part: Extent) -> Result<Bytes, Memory> {
         Ok(Bytes::new(alloc))
+    }
+
+    fn accepts(&self, op: &Op) -> bool {
+        is_named(op)
+    }
+
+    fn repeats(&self, op: &Op) -> bool {
+        is_named(op)
+    }
+
+    fn accepts_lock(&self, lock: &Lock) -> bool {
+        lock.ask.mode == Mode::PR
+    }
+
+    fn requests_wait(&self) -> bool {
+        true
     }
 }

@@ -1,6 +1,7 @@
 //! The service of an object storage target.
 #![tactic(auto)]
 
+mod accepting;
 mod objects;
 mod osts;
 mod ranges;

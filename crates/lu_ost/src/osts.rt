@@ -3,10 +3,11 @@
 ghost use Rattle.std.specs.Prelude.{◌≡◌, ◌≤◌, ◌+◌, ◌-◌, ◌*◌, ◌<◌, ◌/◌, IfOk, OnOk, OnErr, refl};
 ghost use Rattle.lu_service.specs.Objects.{bare};
 
+use super::accepting::{is_on_object, is_write};
 use super::objects::Objects;
 use super::ranges::{cut_range, page_range, put_range, whole};
 use super::reading::page_content;
-use lu_base::{Bytes, Extent, Memory, Resource, Txn, Who};
+use lu_base::{Bytes, Extent, Lock, Memory, Resource, Txn, Who};
 use lu_msg::{Answer, Errno, Op};
 use lu_part::{Parts, Wants};
 use lu_service::Service;
@@ -119,5 +120,21 @@ impl Service for Ost {
             return Ok(Bytes::new(alloc));
         };
         page_content(alloc, object, part)
+    }
+
+    fn accepts(&self, op: &Op) -> bool {
+        is_on_object(op)
+    }
+
+    fn repeats(&self, op: &Op) -> bool {
+        is_write(op)
+    }
+
+    fn accepts_lock(&self, _lock: &Lock) -> bool {
+        true
+    }
+
+    fn requests_wait(&self) -> bool {
+        false
     }
 }

@@ -1,6 +1,7 @@
 pub mod Contents
 pub mod Acts
 pub mod Takes
+pub mod Serving
 pub mod Names
 pub mod Objects
 pub mod Covered

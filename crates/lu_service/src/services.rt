@@ -1,10 +1,10 @@
 //! A service, its meaning and its laws.
 
-ghost use Rattle.std.specs.Prelude.{◌≡◌, ◌<◌, ◌≤◌, ◌/◌, true, IfOk, OnOk, OnErr};
+ghost use Rattle.std.specs.Prelude.{◌≡◌, ◌↔◌, ◌<◌, ◌≤◌, ◌/◌, true, IsTrue, IfOk, OnOk, OnErr};
 ghost use Rattle.lu_base.specs.declared.ids.Txn.{Txn as SpecTxn};
 ghost use Rattle.lu_spec_machine.specs.Objects.{page_size};
 
-use lu_base::{Bytes, Extent, Memory, Resource, Txn, Who};
+use lu_base::{Bytes, Extent, Lock, Memory, Resource, Txn, Who};
 use lu_msg::{Answer, Op};
 use lu_part::{Parts, Wants};
 use std::alloc::Global;
@@ -26,6 +26,7 @@ pub trait Service {
     ghost use Rattle.lu_service.specs.declared.services.Kind.TheVariants.{Mdt, Ost};
     ghost use Rattle.lu_service.specs.Acts.{Acts, IsLawful};
     ghost use Rattle.lu_service.specs.Takes.{Takes, Performs};
+    ghost use Rattle.lu_service.specs.Serving.{IsRepeatable, IsLockOf};
     ghost use Rattle.lu_service.specs.Names.{names};
     ghost use Rattle.lu_service.specs.Objects.{objects};
 
@@ -88,6 +89,24 @@ pub trait Service {
         requires end { part.last < most_bytes }
         ensures read { IfOk result (λ bytes. bytes
             ≡ acts.read (contents self.now) resource (part.first / page_size) part) };
+
+    /// Whether it may be asked about an operation: one of its kind, with fields in their bounds.
+    fn accepts(&self, op: &Op) -> bool
+        ensures accepts { IsTrue result ↔ Takes kind op.now };
+
+    /// Whether an operation may be performed again after a boot: one that it performs, and of objects one that changes
+    /// them.
+    fn repeats(&self, op: &Op) -> bool
+        ensures repeats { IsTrue result ↔ IsRepeatable kind op.now };
+
+    /// Whether a lock may be one of its target's: those on names are for reading.
+    fn accepts_lock(&self, lock: &Lock) -> bool
+        ensures accepts { IsTrue result ↔ IsLockOf kind lock.now };
+
+    /// Whether requests wait at the target until what they touch is free, as those on names do. Elsewhere locks wait,
+    /// each in the queue of its object.
+    fn requests_wait(&self) -> bool
+        ensures waits { IsTrue result ↔ kind ≡ Mdt };
 
     // The laws of footprints.
     ghost lawful: { IsLawful acts kind };

@@ -2,12 +2,12 @@
 use Rattle.std.specs.Prelude.{◌≡◌, ℕ, ◌≤◌, ◌<◌, ◌==◌, true, false, List, [], Some, All, AllPairs}
 use Rattle.lu_base.specs.declared.ids.Who.{Who}
 use Rattle.lu_base.specs.declared.locks.Lock.{Lock}
-use Rattle.lu_base.specs.declared.locks.Mode.TheVariants.{PR}
 use Rattle.lu_msg.specs.Limits.{tag_count}
 use Rattle.lu_msg.specs.declared.messages.Request.{Request}
 use Rattle.lu_msg.specs.declared.operations.Op.TheVariants as op
 use Rattle.lu_service.specs.declared.services.Kind.{Kind}
 use Rattle.lu_service.specs.declared.services.Kind.TheVariants.{Mdt, Ost}
+pub use Rattle.lu_service.specs.Serving.{IsForReading}
 use Rattle.lu_service.specs.Takes.{Takes}
 use Rattle.lu_spec_entries.specs.Carried.{Glimpse}
 use Rattle.lu_spec_target.specs.Lives.{is_life, slot_in}
@@ -46,9 +46,6 @@ abbrev pub AskApart : Glimpse → Glimpse → Type 0
 AskApart g h = AreApart g.request h.request
 
 -- ---- the locks
-
-abbrev pub IsForReading : Lock → Type 0
-IsForReading l = l.ask.mode ≡ PR
 
 -- its life is one of these
 abbrev pub IsOfLife : List Who → Lock → Type 0

@@ -1,15 +1,13 @@
 -- What a target's service shows of the contents that the rows read, once transactions were performed again over what it
 -- showed before; and what is wanted of these.
-use Rattle.std.specs.Prelude.{◌≡◌, ℕ, ◌+◌, ◌≤◌, max, true, ⊤, List, [], ◌∷◌, map}
+use Rattle.std.specs.Prelude.{◌≡◌, ℕ, ◌+◌, ◌≤◌, max, ⊤, List, [], ◌∷◌, map}
 use Rattle.lu_base.specs.declared.ids.Who.{Who}
 use Rattle.lu_msg.specs.declared.commits.Batch.{Batch}
 use Rattle.lu_msg.specs.declared.commits.Transaction.{Transaction}
-use Rattle.lu_msg.specs.declared.operations.Op.{Op}
 use Rattle.lu_service.specs.declared.services.Kind.{Kind}
 use Rattle.lu_service.specs.declared.services.Kind.TheVariants.{Mdt, Ost}
 use Rattle.lu_service.specs.Contents.{Contents}
-use Rattle.lu_service.specs.Objects.{alters}
-use Rattle.lu_service.specs.Takes.{Performs}
+pub use Rattle.lu_service.specs.Serving.{IsRepeatable}
 use Rattle.lu_spec_entries.specs.Carried.{Deed as RowsDeed, Contents as Read, Disk}
 use Rattle.lu_spec_target.specs.Stored.{all_done, forgotten, last_number}
 use Rattle.lu_spec_target.specs.Windows.{Replayed}
@@ -31,10 +29,7 @@ deed_of d = record { tag = d.tag; op = d.op; writes = d.writes; reply = d.reply 
 abbrev pub transactions_of : List KeptReplay → List Transaction
 transactions_of kept = map transaction_again (map kept_replay kept)
 
--- ---- what may be performed again: what the service performs, and of objects no look at a size
-
-abbrev pub IsRepeatable : Kind → Op → Type 0
-IsRepeatable kind o = Performs kind o × (kind ≡ Ost → alters o ≡ true)
+-- ---- what may be performed again
 
 abbrev pub AreRepeatable : Kind → List Transaction → Type 0
 AreRepeatable kind [] = ⊤

@@ -1,17 +1,11 @@
 -- Which replays and locks may be taken of a life that comes back.
-use Rattle.std.proofs.Common.{◌≡◌, ℕ, ◌==◌, ◌<◌, ◌≤◌, Bool, true, false, refl, sym, ap, subst, ◌∙◌, arith}
+use Rattle.std.proofs.Common.{◌≡◌, ℕ, ◌<◌, ◌≤◌, Bool, true, false, sym, ap, ◌∙◌, arith}
 use Rattle.std.specs.Prelude.{IsTrue, ◌↔◌}
-use Rattle.std.proofs.lemmas.Bool.Decides.{nat_tests}
 use Rattle.lu_base.specs.declared.ids.Who.{Who}
 use Rattle.lu_base.specs.declared.locks.Lock.{Lock}
 use Rattle.lu_lock.specs.Overlap.{IsOrdered}
 use Rattle.lu_msg.specs.Limits.{tag_count}
 use Rattle.lu_msg.specs.declared.messages.RequestReplay.{RequestReplay}
-use Rattle.lu_msg.specs.declared.operations.Op.{Op}
-use Rattle.lu_service.specs.declared.services.Kind.{Kind}
-use Rattle.lu_service.specs.declared.services.Kind.TheVariants.{Mdt, Ost}
-use Rattle.lu_service.specs.Takes.{IsNamed}
-use Rattle.lu_target_invariant.specs.Sound.{IsForReading, IsKindOf}
 use Rattle.lu_target_redo.specs.Shown.{IsRepeatable}
 use Rattle.lu_spec_target.specs.Kept.{replayed}
 use Rattle.lu_spec_target.specs.Lives.{is_life}
@@ -31,38 +25,6 @@ pub served_of : (s : ServerState) (w : State) (who : Who) (served : Bool) → Aw
 served_of s w who served awaits is =
     let gathers = awaits.1.gathers in
     is w awaits.0 gathers ∙ sym (ap (λ (it : Window). is_life who it.lives) gathers.window)
-
-named_kind : (id : ℕ) (kind : Kind) → IsKindOf id kind → (id == 0) ≡ true → kind ≡ Mdt
-named_kind id Mdt is e = refl
-named_kind id Ost is e = absurd (cc)
-
-object_kind : (id : ℕ) (kind : Kind) → IsKindOf id kind → (id == 0) ≡ false → kind ≡ Ost
-object_kind id Mdt is e = let own : (id == 0) ≡ true = grind (arith, nat_tests) in absurd (cc)
-object_kind id Ost is e = refl
-
-pub names_kind : (s : ServerState) (w : State) (names : Bool) → Awaits s w → names ≡ (s.id == 0) → names ≡ true → s.kind ≡ Mdt
-names_kind s w names awaits is e = named_kind s.id s.kind awaits.1.gathers.kind (sym is ∙ e)
-
-pub objects_kind : (s : ServerState) (w : State) (names : Bool) → Awaits s w → names ≡ (s.id == 0) → names ≡ false → s.kind ≡ Ost
-objects_kind s w names awaits is e = object_kind s.id s.kind awaits.1.gathers.kind (sym is ∙ e)
-
--- ---- operations and locks by kind
-
-names_again : (o : Op) → IsNamed o → IsRepeatable Mdt o
-names_again o is = (is, λ e. absurd (cc))
-
--- the test of an operation, by kind
-pub again_named : (kind : Kind) (o : Op) (b : Bool) → kind ≡ Mdt → (IsTrue b ↔ IsNamed o) → (IsTrue b ↔ IsRepeatable kind o)
-again_named kind o b is test = subst (λ it. IsTrue b ↔ IsRepeatable it o) (sym is) (λ t. names_again o (test.0 t), λ again. test.1 again.0)
-
-pub again_written : (kind : Kind) (o : Op) (b : Bool) → kind ≡ Ost → (IsTrue b ↔ IsRepeatable Ost o) → (IsTrue b ↔ IsRepeatable kind o)
-again_written kind o b is test = subst (λ it. IsTrue b ↔ IsRepeatable it o) (sym is) test
-
-pub sort_named : (kind : Kind) (l : Lock) (b : Bool) → kind ≡ Mdt → (IsTrue b ↔ IsForReading l) → (IsTrue b ↔ IsLockOf kind l)
-sort_named kind l b is test = subst (λ it. IsTrue b ↔ IsLockOf it l) (sym is) test
-
-pub sort_object : (kind : Kind) (l : Lock) → kind ≡ Ost → (IsTrue true ↔ IsLockOf kind l)
-sort_object kind l is = subst (λ it. IsTrue true ↔ IsLockOf it l) (sym is) (λ t. tt, λ sort. refl)
 
 -- ---- all that is asked
 

@@ -33,17 +33,11 @@ use Rattle.lu_target_server.proofs.Staying.{locks_still}
 
 -- ---- the kind of a target that stands
 
-pub kind_names : (s : ServerState) (v : Target) → Shows s v → (s.id == 0) ≡ true → s.kind ≡ Mdt
+kind_names : (s : ServerState) (v : Target) → Shows s v → (s.id == 0) ≡ true → s.kind ≡ Mdt
 kind_names s v shows names = by s.kind shows.kind where
   by : (kind : Kind) → IsKindOf s.id kind → kind ≡ Mdt
   by Mdt is = refl
   by Ost is = absurd (cc)
-
-pub kind_objects : (s : ServerState) (v : Target) → Shows s v → (s.id == 0) ≡ false → s.kind ≡ Ost
-kind_objects s v shows objects = by s.kind shows.kind where
-  by : (kind : Kind) → IsKindOf s.id kind → kind ≡ Ost
-  by Mdt is = let zero_is : (s.id == 0) ≡ true = ap (λ n. n == 0) is in absurd (cc)
-  by Ost is = refl
 
 setting_stays : (v : Target) (es : List Entry) → (turn v es).setting ≡ v.setting
 setting_stays v [] = refl

@@ -15,6 +15,7 @@ pub mod ObjectRows
 pub mod Glimpsing
 pub mod Performing
 pub mod Middles
+pub mod OfKind
 pub mod Releases
 pub mod Departing
 pub mod GoingOn

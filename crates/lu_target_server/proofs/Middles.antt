@@ -8,7 +8,7 @@ use Rattle.lu_base.specs.declared.ids.Who.{Who}
 use Rattle.lu_msg.specs.declared.messages.Post.{Post}
 use Rattle.lu_msg.specs.declared.messages.Request.{Request}
 use Rattle.lu_service.specs.declared.services.Kind.{Kind}
-use Rattle.lu_service.specs.declared.services.Kind.TheVariants.{Mdt, Ost}
+use Rattle.lu_service.specs.declared.services.Kind.TheVariants.{Ost}
 use Rattle.lu_service.specs.Contents.{Contents}
 use Rattle.lu_trace.specs.declared.entries.Entry.{Entry as PrintedEntry}
 use Rattle.lu_trace.specs.declared.traces.Step.{Step}
@@ -28,7 +28,7 @@ use Rattle.lu_target_store.specs.Taken.{taken_of}
 use Rattle.lu_target_store.specs.Stores.{StoreState, Serves, HasTaken}
 use Rattle.lu_target_locks.specs.Servers as locking
 use Rattle.lu_target_server.specs.Answering.{Tells, TellsSizes}
-use Rattle.lu_target_invariant.specs.Sound.{IsKindOf, IsTaken, IsSound}
+use Rattle.lu_target_invariant.specs.Sound.{IsTaken, IsSound}
 use Rattle.lu_target_server.specs.Servers.{ServerState, Shows, Stands}
 use Rattle.lu_target_server.specs.Middles.{ShowsRest, Waits, MakesPart, MakesRest}
 use Rattle.lu_target_server.proofs.Composing.{giving_more, turn_more}
@@ -100,14 +100,6 @@ sizes_rest s v is rest = record { tells = tells_rest s v rest; objects = objects
   objects = subst (λ (kind : Kind). redo.Shows kind v.setting.osts v.number s.contents v.contents) is rest.contents
 
 -- ---- which target it is
-
-pub names_kind : (id : ℕ) (kind : Kind) → IsKindOf id kind → (id == 0) ≡ true → kind ≡ Mdt
-names_kind id Mdt is test = refl
-names_kind id Ost is test = absurd (never (sym test ∙ is))
-
-pub objects_kind : (id : ℕ) (kind : Kind) → IsKindOf id kind → (id == 0) ≡ false → kind ≡ Ost
-objects_kind id Ost is test = refl
-objects_kind id Mdt is test = absurd (never (sym (ap (λ n. n == 0) is) ∙ test))
 
 pub names_row : (id : ℕ) (v : Target) → v.setting.id ≡ id → is_names v ≡ (id == 0)
 names_row id v is = ap (λ n. n == 0) is

@@ -1,5 +1,5 @@
 -- A target's parts together while it recovers, with what it has taken of the lives that come back.
-use Rattle.std.specs.Prelude.{◌≡◌, ℕ, ◌<◌, ◌≤◌, max, nat_lt, ◌==◌, Bool, true, false, ⊤, List, [], ◌∷◌, map}
+use Rattle.std.specs.Prelude.{◌≡◌, ℕ, ◌<◌, ◌≤◌, max, nat_lt, ◌==◌, true, false, ⊤, List, [], ◌∷◌, map}
 use Rattle.lu_base.specs.declared.ids.Who.{Who}
 use Rattle.lu_base.specs.declared.locks.Lock.{Lock}
 use Rattle.lu_lock.specs.Overlap.{IsOrdered}
@@ -7,7 +7,7 @@ use Rattle.lu_spec_machine.specs.Footprint.{Every}
 use Rattle.lu_msg.specs.Limits.{tag_count}
 use Rattle.lu_msg.specs.declared.messages.RequestReplay.{RequestReplay}
 use Rattle.lu_service.specs.declared.services.Kind.{Kind}
-use Rattle.lu_service.specs.declared.services.Kind.TheVariants.{Mdt, Ost}
+pub use Rattle.lu_service.specs.Serving.{IsLockOf}
 use Rattle.lu_spec_entries.specs.Words.{same_life}
 use Rattle.lu_spec_target.specs.Phase.{first_of}
 use Rattle.lu_spec_target.specs.Lives.{is_life}
@@ -20,7 +20,6 @@ use Rattle.lu_target_refines.specs.Journals.{AreRising}
 use Rattle.lu_target_refines.specs.Lives.{InOrder, OfClients}
 use Rattle.lu_target_refines.specs.Windows.{ShowsWindow}
 use Rattle.lu_window.specs.States.{State}
-use Rattle.lu_target_invariant.specs.Sound.{IsForReading}
 use Rattle.lu_target_store.specs.Stores as stores
 use Rattle.lu_target_locks.specs.Servers.{ShowsCounts}
 use Rattle.lu_target_redo.specs.Shown as redo
@@ -36,11 +35,6 @@ pub record IsReplay (kind : Kind) (lives : List Who) (most : ℕ) (r : Replayed)
   pub earlier : r.number ≤ most
   pub tag : r.tag < tag_count
   pub repeatable : IsRepeatable kind r.op
-
--- locks on names are for reading
-abbrev pub IsLockOf : Kind → Lock → Type 0
-IsLockOf Mdt l = IsForReading l
-IsLockOf Ost l = ⊤
 
 -- a lock: its holder has a slot, its cookie is of an earlier boot, the ends of its range are in order, and it is one of
 -- that kind of target

@@ -56,7 +56,7 @@ impl<S: Service, D: Disk> Server<S, D> {
     {
         self.store.enter(request)?;
         self.requests.push(request.copy(self.alloc)?)?;
-        if self.serves_names() {
+        if self.service.requests_wait() {
             return self.names_go(turn);
         }
         self.objects_go(turn, request)
@@ -68,7 +68,7 @@ impl<S: Service, D: Disk> Server<S, D> {
         ensures makes { OnOk result (Makes (λ v. row_where v who cookie) self.old self.new turn.old turn.new) }
         ensures disk { KeepsDisk self.old.store self.new.store }
     {
-        if self.serves_names() {
+        if self.service.requests_wait() {
             return Ok(());
         }
         match self.locks.find(who, cookie) {

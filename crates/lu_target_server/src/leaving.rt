@@ -137,7 +137,7 @@ impl<S: Service, D: Disk> Server<S, D> {
         ensures fault { result ≢ Err fault.Disk }
         ensures disk { KeepsDisk self.old.store self.new.store }
     {
-        if self.serves_names() {
+        if self.service.requests_wait() {
             return self.names_go(turn);
         }
         Ok(self.tell_steps(turn, steps)?)

@@ -45,7 +45,7 @@ impl<S: Service, D: Disk> Server<S, D> {
             return Ok(());
         };
         self.release(turn, &ended)?;
-        if self.serves_names() {
+        if self.service.requests_wait() {
             return self.names_go(turn);
         }
         self.queue_goes(turn, ended.lock.resource, &granted)

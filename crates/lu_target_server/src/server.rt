@@ -1,6 +1,6 @@
 //! The parts of a target together.
 
-ghost use Rattle.std.specs.Prelude.{◌≡◌, ◌==◌, [], ◌∷◌, OnOk};
+ghost use Rattle.std.specs.Prelude.{◌≡◌, [], ◌∷◌, OnOk};
 ghost use Rattle.lu_msg.specs.declared.messages.Message.TheVariants as message;
 ghost use Rattle.lu_spec_target.specs.Lives.{is_life};
 ghost use Rattle.lu_spec_target.specs.Replies.{to_life};
@@ -53,13 +53,6 @@ impl<S: Service, D: Disk> Model for Server<S, D> {
 }
 
 impl<S: Service, D: Disk> Server<S, D> {
-    /// Whether it is the metadata target's.
-    pub(crate) fn serves_names(&self) -> bool
-        ensures names { result ≡ (self.now.id == 0) }
-    {
-        self.id == TargetId(0)
-    }
-
     /// The target's boot, from 1.
     pub fn boot_number(&self) -> u32
         ensures boot { result ≡ self.now.boot }

@@ -1,38 +1,49 @@
--- The queue that is there is written through.
-use Rattle.std.proofs.Common.{◌≡◌, ◌∙◌, Some, is_some, sym, ap, subst, rules}
-use Rattle.std.specs.Prelude.{IfOk, IsSome}
-use Rattle.std.proofs.lemmas.Result.{on_err_weaker}
-use Rattle.lu_queue.specs.Queues.{without, AreGranted}
-use Rattle.lu_lockspace.specs.Entries.{entry_of, at}
-use Rattle.lu_lockspace.proofs.Resources.{is_at_same}
-use Rattle.lu_lockspace.proofs.Laws.{at_some, set_same}
+-- The queue is written at its seat.
+use Rattle.std.proofs.Common.{rules, ◌≡◌, ◌∙◌, Some, sym, ap, subst}
+use Rattle.std.specs.Prelude.{IfOk}
+use Rattle.slab.specs.Slab.{with_value}
+use Rattle.lu_queue.specs.Queues.{IsTakenAway, IsQueue}
+use Rattle.lu_lockspace.specs.Entries.{entry_of, at, AreRising}
+use Rattle.lu_lockspace.specs.Seats.{seat_of, seated}
+use Rattle.lu_lockspace.proofs.Seats.{at_seated, rising_seated, at_with, keeps_with}
 use Rattle.lu_lockspace.proofs.queues.Queues.take_away.Goals as goal
+
+pub index_mut-requires : goal.index_mut-requires
+index_mut-requires c = c.self.invariant.there c.args.resource c.in-Some.seat.now (sym c.in-Some.ensures.value)
 
 pub returns-in-Some-clause-granted : goal.returns-in-Some-clause-granted
 returns-in-Some-clause-granted c =
-    let found : entry_of c.args.resource c.self.inside.entries.entries ≡ Some c.in-Some.queue.now = search rules in
-    let some : IsSome (entry_of c.args.resource c.self.inside.entries.entries) = ap is_some found in
-    let first : entry_of c.args.resource c.args.self.now ≡ Some c.in-Some.queue.now = search rules in
-    let start : c.in-Some.queue.now ≡ at c.args.resource c.args.self.now =
-    sym (at_some c.args.resource c.args.self.now c.in-Some.queue.now first) in
-    let new = (c.get_mut.follows.lender c.cancel.new.self).entries in
-    let end : at c.args.resource new ≡ c.cancel.new.self = at_some c.args.resource new c.cancel.new.self
-    ((c.get_mut.follows.holds c.cancel.new.self).3 some).1 in
-    subst (λ q. IfOk c.cancel.result (λ grants. AreGranted (without c.args.cookie.0 q) grants (at c.args.resource new))) start
-    (subst (λ q. IfOk c.cancel.result (λ grants. AreGranted (without c.args.cookie.0 c.in-Some.queue.now) grants q)) (sym end)
+    let seat : seat_of c.args.resource c.self.inside.seats.entries ≡ Some c.in-Some.seat.now = sym c.in-Some.ensures.value in
+    let start : c.index_mut.result.now ≡ at c.args.resource c.args.self.now =
+    sym (at_seated c.args.resource c.self.inside.seats.entries c.self.inside.queues c.in-Some.seat.now c.index_mut.result.now c.self.invariant seat
+    c.index_mut.ensures.value) ∙ ap (at c.args.resource) c.self.view_is in
+    let new = with_value c.self.inside.queues c.in-Some.seat.now c.cancel.new.self in
+    let end : at c.args.resource (seated c.self.inside.seats.entries new) ≡ c.cancel.new.self =
+    at_with c.args.resource c.self.inside.seats.entries c.self.inside.queues c.in-Some.seat.now c.cancel.new.self c.self.invariant seat in
+    subst (λ q. IfOk c.cancel.result (λ grants.
+    IsTakenAway c.args.cookie.0 q grants (at c.args.resource (seated c.self.inside.seats.entries new)))) start
+    (subst (λ q. IfOk c.cancel.result (λ grants. IsTakenAway c.args.cookie.0 c.index_mut.result.now grants q)) (sym end)
     c.cancel.ensures.granted)
 
 pub returns-in-Some-clause-others : goal.returns-in-Some-clause-others
 returns-in-Some-clause-others c =
-    let found : entry_of c.args.resource c.self.inside.entries.entries ≡ Some c.in-Some.queue.now = search rules in
-    let some : IsSome (entry_of c.args.resource c.self.inside.entries.entries) = ap is_some found in
-    λ other differ. ((c.get_mut.follows.holds c.cancel.new.self).3 some).2 other (is_at_same c.args.resource other ∙ differ)
-    ∙ ap (entry_of other) c.self.view_is
+    let seat : seat_of c.args.resource c.self.inside.seats.entries ≡ Some c.in-Some.seat.now = sym c.in-Some.ensures.value in
+    λ other differ. keeps_with c.args.resource c.self.inside.seats.entries c.self.inside.queues c.in-Some.seat.now c.cancel.new.self
+    c.self.invariant seat other differ ∙ ap (entry_of other) c.self.view_is
 
-pub returns-in-Some-clause-kept : goal.returns-in-Some-clause-kept
-returns-in-Some-clause-kept c =
-    let found : entry_of c.args.resource c.self.inside.entries.entries ≡ Some c.in-Some.queue.now = search rules in
-    on_err_weaker c.cancel.result
-    (λ same. (c.get_mut.follows.holds c.cancel.new.self).0 ∙ set_same _ c.self.inside.entries.entries c.cancel.new.self
-    (found ∙ ap Some (sym same)) ∙ c.self.view_is)
-    c.cancel.ensures.kept
+pub returns-in-Some-clause-lawful : goal.returns-in-Some-clause-lawful
+returns-in-Some-clause-lawful c =
+    let seat : seat_of c.args.resource c.self.inside.seats.entries ≡ Some c.in-Some.seat.now = sym c.in-Some.ensures.value in
+    let new = with_value c.self.inside.queues c.in-Some.seat.now c.cancel.new.self in
+    let end : at c.args.resource (seated c.self.inside.seats.entries new) ≡ c.cancel.new.self =
+    at_with c.args.resource c.self.inside.seats.entries c.self.inside.queues c.in-Some.seat.now c.cancel.new.self c.self.invariant seat in
+    let lawful : IsQueue (at c.args.resource (seated c.self.inside.seats.entries new)) = subst IsQueue (sym end) c.cancel.ensures.lawful in
+    search rules
+
+pub returns-in-Some-clause-rising : goal.returns-in-Some-clause-rising
+returns-in-Some-clause-rising c = rising_seated c.self.inside.seats.entries
+    (with_value c.self.inside.queues c.in-Some.seat.now c.cancel.new.self) c.self.invariant.rising
+
+pub returns-clause-rising : goal.returns-clause-rising
+returns-clause-rising c = subst AreRising c.self.view_is
+    (rising_seated c.self.inside.seats.entries c.self.inside.queues c.self.invariant.rising)

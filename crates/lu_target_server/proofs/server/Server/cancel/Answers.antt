@@ -1,16 +1,16 @@
 -- The lock is released, and then what waited goes on.
-use Rattle.std.proofs.Common.{◌≡◌, ◌==◌, true, false, sym, ap, subst, ◌∙◌}
+use Rattle.std.proofs.Common.{◌≡◌, sym, ap, subst, ◌∙◌}
 use Rattle.std.proofs.lemmas.Result.{on_ok_weaker}
+use Rattle.lu_service.specs.declared.services.Kind.TheVariants.{Mdt, Ost}
 use Rattle.lu_trace.specs.Turns.{Making}
 use Rattle.lu_spec_target.specs.Requests.{releases}
 use Rattle.lu_spec_target.specs.States.{Target, turn}
-use Rattle.lu_target_invariant.specs.Sound.{IsKindOf}
 use Rattle.lu_target_server.specs.Middles.{MakesPart}
 use Rattle.lu_target_server.specs.Releases.{IsGivenBack, IsReturn}
 use Rattle.lu_target_server.specs.Servers.{ServerState, Shows}
 use Rattle.lu_target_server.proofs.Cancels.{may_release_back, names_after, queue_after, goes_names, goes_objects, over_names, over_cancels}
 use Rattle.lu_target_server.proofs.Cancels.{cancels}
-use Rattle.lu_target_server.proofs.Middles.{names_kind, objects_kind}
+use Rattle.lu_target_server.proofs.OfKind.{waits_names, waits_objects, names_id, objects_id}
 use Rattle.lu_target_server.proofs.Rooms.{room_made}
 use Rattle.lu_spec_target.specs.Requests.{row_cancel}
 use Rattle.lu_target_server.proofs.server.Server.cancel.Goals as goal
@@ -33,20 +33,10 @@ release-requires g c =
 
 pub names_go-requires-clause-names : goal.names_go-requires-clause-names
 names_go-requires-clause-names g c =
-    let s = c.args.self.now in
-    let back = c.take_back.new.self in
-    let ended = c.in-Some.ended in
-    let granted = c.in-Some.granted in
-    let is_back : IsGivenBack c.args.who c.args.cookie ended granted s.locks back.locks =
-    subst (λ o. IsReturn c.args.who c.args.cookie o s.locks back.locks) c.in-Some.is c.in_ok-ended.ensures.back in
     let released = c.release.new.self in
-    let part : (v : Target) → Shows s v → MakesPart (releases c.args.turn.now.at ended.lock v) v back released c.args.turn.now
-    c.release.new.turn =
-    (λ v shows. c.in_ok-release.ensures.released v (may_release_back s back v c.args.who c.args.cookie ended granted shows
-    c.take_back.ensures.same is_back)) in
-    let kind_of : IsKindOf released.id released.kind = (part c.requires.stands.0 c.requires.stands.1).shows.kind in
-    let test : (released.id == 0) ≡ true = sym c.serves_names.ensures.names ∙ c.if-serves_names.true in
-    let kind = names_kind released.id released.kind kind_of test in
+    let same : released.kind ≡ g.S.Service.kind = ap (λ (x : ServerState). x.kind) (sym c.self.view_is) in
+    let kind : released.kind ≡ Mdt = same
+    ∙ waits_names c.requests_wait.result g.S.Service.kind c.requests_wait.ensures.waits c.if-requests_wait.true in
     kind
 
 pub names_go-requires-clause-stands : goal.names_go-requires-clause-stands
@@ -62,9 +52,9 @@ names_go-requires-clause-stands g c =
     c.release.new.turn =
     (λ v shows. c.in_ok-release.ensures.released v (may_release_back s back v c.args.who c.args.cookie ended granted shows
     c.take_back.ensures.same is_back)) in
-    let kind_of : IsKindOf released.id released.kind = (part c.requires.stands.0 c.requires.stands.1).shows.kind in
-    let test : (released.id == 0) ≡ true = sym c.serves_names.ensures.names ∙ c.if-serves_names.true in
-    let kind = names_kind released.id released.kind kind_of test in
+    let same : released.kind ≡ g.S.Service.kind = ap (λ (x : ServerState). x.kind) (sym c.self.view_is) in
+    let kind : released.kind ≡ Mdt = same
+    ∙ waits_names c.requests_wait.result g.S.Service.kind c.requests_wait.ensures.waits c.if-requests_wait.true in
     let v = c.requires.stands.0 in
     let shows = c.requires.stands.1 in (
       turn v (releases c.args.turn.now.at ended.lock v),
@@ -72,8 +62,8 @@ names_go-requires-clause-stands g c =
           kind,
     )
 
-pub returns-then-serves_names-clause-makes : goal.returns-then-serves_names-clause-makes
-returns-then-serves_names-clause-makes g c =
+pub returns-then-requests_wait-clause-makes : goal.returns-then-requests_wait-clause-makes
+returns-then-requests_wait-clause-makes g c =
     let s = c.args.self.now in
     let back = c.take_back.new.self in
     let ended = c.in-Some.ended in
@@ -85,9 +75,10 @@ returns-then-serves_names-clause-makes g c =
     c.release.new.turn =
     (λ v shows. c.in_ok-release.ensures.released v (may_release_back s back v c.args.who c.args.cookie ended granted shows
     c.take_back.ensures.same is_back)) in
-    let kind_of : IsKindOf released.id released.kind = (part c.requires.stands.0 c.requires.stands.1).shows.kind in
-    let test : (released.id == 0) ≡ true = sym c.serves_names.ensures.names ∙ c.if-serves_names.true in
-    let kind = names_kind released.id released.kind kind_of test in
+    let same : released.kind ≡ g.S.Service.kind = ap (λ (x : ServerState). x.kind) (sym c.self.view_is) in
+    let kind : released.kind ≡ Mdt = same
+    ∙ waits_names c.requests_wait.result g.S.Service.kind c.requests_wait.ensures.waits c.if-requests_wait.true in
+    let test = names_id released.id released.kind (part c.requires.stands.0 c.requires.stands.1).shows.kind kind in
     on_ok_weaker c.names_go.result
     (λ makes. cancels s c.names_go.new.self c.args.who c.args.cookie ended.lock c.args.turn.now c.names_go.new.turn
     (λ v shows. is_back.released.was v shows.locks)
@@ -97,20 +88,10 @@ returns-then-serves_names-clause-makes g c =
 
 pub queue_goes-requires-clause-objects : goal.queue_goes-requires-clause-objects
 queue_goes-requires-clause-objects g c =
-    let s = c.args.self.now in
-    let back = c.take_back.new.self in
-    let ended = c.in-Some.ended in
-    let granted = c.in-Some.granted in
-    let is_back : IsGivenBack c.args.who c.args.cookie ended granted s.locks back.locks =
-    subst (λ o. IsReturn c.args.who c.args.cookie o s.locks back.locks) c.in-Some.is c.in_ok-ended.ensures.back in
     let released = c.release.new.self in
-    let part : (v : Target) → Shows s v → MakesPart (releases c.args.turn.now.at ended.lock v) v back released c.args.turn.now
-    c.release.new.turn =
-    (λ v shows. c.in_ok-release.ensures.released v (may_release_back s back v c.args.who c.args.cookie ended granted shows
-    c.take_back.ensures.same is_back)) in
-    let kind_of : IsKindOf released.id released.kind = (part c.requires.stands.0 c.requires.stands.1).shows.kind in
-    let test : (released.id == 0) ≡ false = sym c.serves_names.ensures.names ∙ c.if-serves_names.false in
-    let kind = objects_kind released.id released.kind kind_of test in
+    let same : released.kind ≡ g.S.Service.kind = ap (λ (x : ServerState). x.kind) (sym c.self.view_is) in
+    let kind : released.kind ≡ Ost = same
+    ∙ waits_objects c.requests_wait.result g.S.Service.kind c.requests_wait.ensures.waits c.if-requests_wait.false in
     kind
 
 pub queue_goes-requires-clause-goes : goal.queue_goes-requires-clause-goes
@@ -126,7 +107,6 @@ queue_goes-requires-clause-goes g c =
     c.release.new.turn =
     (λ v shows. c.in_ok-release.ensures.released v (may_release_back s back v c.args.who c.args.cookie ended granted shows
     c.take_back.ensures.same is_back)) in
-    let kind_of : IsKindOf released.id released.kind = (part c.requires.stands.0 c.requires.stands.1).shows.kind in
     let v = c.requires.stands.0 in
     let shows = c.requires.stands.1 in (
       turn v (releases c.args.turn.now.at ended.lock v),
@@ -147,9 +127,10 @@ returns-clause-makes g c =
     c.release.new.turn =
     (λ v shows. c.in_ok-release.ensures.released v (may_release_back s back v c.args.who c.args.cookie ended granted shows
     c.take_back.ensures.same is_back)) in
-    let kind_of : IsKindOf released.id released.kind = (part c.requires.stands.0 c.requires.stands.1).shows.kind in
-    let test : (released.id == 0) ≡ false = sym c.serves_names.ensures.names ∙ c.if-serves_names.false in
-    let kind = objects_kind released.id released.kind kind_of test in
+    let same : released.kind ≡ g.S.Service.kind = ap (λ (x : ServerState). x.kind) (sym c.self.view_is) in
+    let kind : released.kind ≡ Ost = same
+    ∙ waits_objects c.requests_wait.result g.S.Service.kind c.requests_wait.ensures.waits c.if-requests_wait.false in
+    let test = objects_id released.id released.kind (part c.requires.stands.0 c.requires.stands.1).shows.kind kind in
     on_ok_weaker c.queue_goes.result
     (λ went. cancels s c.queue_goes.new.self c.args.who c.args.cookie ended.lock c.args.turn.now c.queue_goes.new.turn
     (λ v shows. is_back.released.was v shows.locks)
@@ -159,8 +140,8 @@ returns-clause-makes g c =
     (queue_after s back released v c.args.who c.args.cookie ended granted c.args.turn.now c.release.new.turn shows is_back
     (part v shows))))) c.queue_goes.ensures.went
 
-pub returns-then-serves_names-clause-numbers : goal.returns-then-serves_names-clause-numbers
-returns-then-serves_names-clause-numbers g c =
+pub returns-then-requests_wait-clause-numbers : goal.returns-then-requests_wait-clause-numbers
+returns-then-requests_wait-clause-numbers g c =
     λ is.
     let s = c.args.self.now in
     let back = c.take_back.new.self in
@@ -173,19 +154,20 @@ returns-then-serves_names-clause-numbers g c =
     c.release.new.turn =
     (λ v shows. c.in_ok-release.ensures.released v (may_release_back s back v c.args.who c.args.cookie ended granted shows
     c.take_back.ensures.same is_back)) in
-    let kind_of : IsKindOf released.id released.kind = (part c.requires.stands.0 c.requires.stands.1).shows.kind in
-    let test : (released.id == 0) ≡ true = sym c.serves_names.ensures.names ∙ c.if-serves_names.true in
-    let kind = names_kind released.id released.kind kind_of test in
+    let same : released.kind ≡ g.S.Service.kind = ap (λ (x : ServerState). x.kind) (sym c.self.view_is) in
+    let kind : released.kind ≡ Mdt = same
+    ∙ waits_names c.requests_wait.result g.S.Service.kind c.requests_wait.ensures.waits c.if-requests_wait.true in
+    let test = names_id released.id released.kind (part c.requires.stands.0 c.requires.stands.1).shows.kind kind in
     over_cancels s c.args.who c.args.cookie ended.lock c.args.turn.now.at (λ v shows. is_back.released.was v shows.locks)
     (λ v shows. over_names s back released v c.args.who c.args.cookie ended granted c.args.turn.now c.release.new.turn shows is_back
     (part v shows) kind test
     (ap (λ (making : Making). making.at) (part v shows).gives) (c.names_go.ensures.numbers is))
 
-pub returns-then-serves_names-clause-room : goal.returns-then-serves_names-clause-room
-returns-then-serves_names-clause-room g c =
+pub returns-then-requests_wait-clause-room : goal.returns-then-requests_wait-clause-room
+returns-then-requests_wait-clause-room g c =
     on_ok_weaker c.names_go.result
     (room_made (λ v. row_cancel v c.args.turn.now.at c.args.who c.args.cookie) c.args.self.now c.names_go.new.self c.args.turn.now
-    c.names_go.new.turn) (returns-then-serves_names-clause-makes g c)
+    c.names_go.new.turn) (returns-then-requests_wait-clause-makes g c)
 
 pub returns-clause-room : goal.returns-clause-room
 returns-clause-room g c =

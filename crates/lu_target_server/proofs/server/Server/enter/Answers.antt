@@ -1,9 +1,10 @@
 -- It is taken, and goes on.
-use Rattle.std.proofs.Common.{◌≡◌, ◌==◌, true, false, ◌++◌, [], ◌∷◌, List, Some, ◌∙◌, sym, ap, subst}
+use Rattle.std.proofs.Common.{◌≡◌, ◌++◌, [], ◌∷◌, List, Some, ◌∙◌, sym, ap, subst}
 use Rattle.std.proofs.lemmas.Result.{on_ok_weaker}
 use Rattle.lu_msg.specs.declared.messages.Request.{Request}
 use Rattle.lu_service.specs.Takes.{Takes}
 use Rattle.lu_service.specs.declared.services.Kind.{Kind}
+use Rattle.lu_service.specs.declared.services.Kind.TheVariants.{Mdt, Ost}
 use Rattle.lu_spec_entries.specs.Words.{Enters}
 use Rattle.lu_spec_target.specs.Names.{names_go}
 use Rattle.lu_spec_target.specs.Objects.{objects_go}
@@ -13,8 +14,9 @@ use Rattle.lu_target_invariant.specs.Requests.{request_of}
 use Rattle.lu_target_store.specs.Stores.{StoreState, Serves, KeepsTaken}
 use Rattle.lu_target_server.specs.Servers.{ServerState, Makes, Stands, IsUnasked}
 use Rattle.lu_target_server.proofs.Composing.{makes_then, stands_then}
-use Rattle.lu_target_server.proofs.Entering.{kind_names, kind_objects, enters_made, with_taken, enters_names, enters_objects, goes_names}
+use Rattle.lu_target_server.proofs.Entering.{enters_made, with_taken, enters_names, enters_objects, goes_names}
 use Rattle.lu_target_server.proofs.Entering.{goes_objects, taken_waits, taken_unasked}
+use Rattle.lu_target_server.proofs.OfKind.{waits_names, waits_objects, names_id, objects_id}
 use Rattle.lu_target_server.specs.Numbers.{Overruns}
 use Rattle.lu_target_server.proofs.Overrunning.{over_then, over_as}
 use Rattle.lu_target_server.proofs.server.Server.enter.Goals as goal
@@ -39,9 +41,10 @@ names_go-requires g c =
     c.requires.may c.requires.new in
     let middle = middle_is _ s store c.push.new.self c.in_ok-copy.field-0 r c.self.view_is c.in_ok-copy.ensures.same
     c.in_ok-push.ensures.added in
-    let zero : (s.id == 0) ≡ true = ap (λ (x : ServerState). x.id == 0) (sym c.self.view_is) ∙ sym c.if-serves_names.ensures.names in
+    let names : s.kind ≡ Mdt = ap (λ (x : ServerState). x.kind) (sym c.self.view_is)
+    ∙ waits_names c.requests_wait.result g.S.Service.kind c.requests_wait.ensures.waits c.if-requests_wait.true in
     record {
-      names = ap (λ (x : ServerState). x.kind) c.self.view_is ∙ kind_names s c.requires.stands.0 c.requires.stands.1 zero;
+      names = ap (λ (x : ServerState). x.kind) c.self.view_is ∙ names;
       stands = subst Stands (sym middle) (stands_then (λ v. Enters r ∷ []) s (with_taken s store r) c.args.turn.now c.args.turn.now one
           c.requires.stands);
     }
@@ -60,8 +63,8 @@ objects_go-requires g c =
     c.requires.may c.requires.new in
     let middle = middle_is _ s store c.push.new.self c.in_ok-copy.field-0 r c.self.view_is c.in_ok-copy.ensures.same
     c.in_ok-push.ensures.added in
-    let other : (s.id == 0) ≡ false = ap (λ (x : ServerState). x.id == 0) (sym c.self.view_is) ∙ sym c.if-serves_names.ensures.names in
-    let kind : s.kind ≡ _ = kind_objects s v shows other in
+    let kind : s.kind ≡ Ost = ap (λ (x : ServerState). x.kind) (sym c.self.view_is)
+    ∙ waits_objects c.requests_wait.result g.S.Service.kind c.requests_wait.ensures.waits c.if-requests_wait.false in
     record {
       objects = ap (λ (x : ServerState). x.kind) c.self.view_is ∙ kind;
       stands = subst Stands (sym middle) (stands_then (λ v. Enters r ∷ []) s (with_taken s store r) c.args.turn.now c.args.turn.now one
@@ -72,8 +75,8 @@ objects_go-requires g c =
       unasked = subst (IsUnasked r) (sym middle) (taken_unasked s store v r shows c.requires.may (c.requires.new v shows));
     }
 
-pub returns-then-serves_names-clause-makes : goal.returns-then-serves_names-clause-makes
-returns-then-serves_names-clause-makes g c =
+pub returns-then-requests_wait-clause-makes : goal.returns-then-requests_wait-clause-makes
+returns-then-requests_wait-clause-makes g c =
     let s = c.args.self.now in
     let r = c.args.request.now in
     let turn = c.args.turn.now in
@@ -85,7 +88,9 @@ returns-then-serves_names-clause-makes g c =
     c.requires.may c.requires.new in
     let middle = middle_is _ s store c.push.new.self c.in_ok-copy.field-0 r c.self.view_is c.in_ok-copy.ensures.same
     c.in_ok-push.ensures.added in
-    let zero : (s.id == 0) ≡ true = ap (λ (x : ServerState). x.id == 0) (sym c.self.view_is) ∙ sym c.if-serves_names.ensures.names in
+    let names : s.kind ≡ Mdt = ap (λ (x : ServerState). x.kind) (sym c.self.view_is)
+    ∙ waits_names c.requests_wait.result g.S.Service.kind c.requests_wait.ensures.waits c.if-requests_wait.true in
+    let zero = names_id s.id s.kind c.requires.stands.1.kind names in
     on_ok_weaker c.names_go.result
     (λ makes.
     goes_names s c.names_go.new.self turn c.names_go.new.turn r zero
@@ -106,7 +111,9 @@ returns-clause-makes g c =
     c.requires.may c.requires.new in
     let middle = middle_is _ s store c.push.new.self c.in_ok-copy.field-0 r c.self.view_is c.in_ok-copy.ensures.same
     c.in_ok-push.ensures.added in
-    let other : (s.id == 0) ≡ false = ap (λ (x : ServerState). x.id == 0) (sym c.self.view_is) ∙ sym c.if-serves_names.ensures.names in
+    let kind : s.kind ≡ Ost = ap (λ (x : ServerState). x.kind) (sym c.self.view_is)
+    ∙ waits_objects c.requests_wait.result g.S.Service.kind c.requests_wait.ensures.waits c.if-requests_wait.false in
+    let other = objects_id s.id s.kind c.requires.stands.1.kind kind in
     on_ok_weaker c.objects_go.result
     (λ makes.
     goes_objects s c.objects_go.new.self turn c.objects_go.new.turn r other
@@ -116,8 +123,8 @@ returns-clause-makes g c =
     makes)))
     c.objects_go.ensures.makes
 
-pub returns-then-serves_names-clause-numbers : goal.returns-then-serves_names-clause-numbers
-returns-then-serves_names-clause-numbers g c =
+pub returns-then-requests_wait-clause-numbers : goal.returns-then-requests_wait-clause-numbers
+returns-then-requests_wait-clause-numbers g c =
     λ is.
     let s = c.args.self.now in
     let r = c.args.request.now in
@@ -130,7 +137,9 @@ returns-then-serves_names-clause-numbers g c =
     c.requires.may c.requires.new in
     let middle = middle_is _ s store c.push.new.self c.in_ok-copy.field-0 r c.self.view_is c.in_ok-copy.ensures.same
     c.in_ok-push.ensures.added in
-    let zero : (s.id == 0) ≡ true = ap (λ (x : ServerState). x.id == 0) (sym c.self.view_is) ∙ sym c.if-serves_names.ensures.names in
+    let names : s.kind ≡ Mdt = ap (λ (x : ServerState). x.kind) (sym c.self.view_is)
+    ∙ waits_names c.requests_wait.result g.S.Service.kind c.requests_wait.ensures.waits c.if-requests_wait.true in
+    let zero = names_id s.id s.kind c.requires.stands.1.kind names in
     over_as (λ v. follow v (Enters r ∷ []) (names_go turn.at)) (λ v. row_enters v turn.at r) s (enters_names s turn.at r zero)
     (over_then (λ v. Enters r ∷ []) (names_go turn.at) s (with_taken s store r) turn turn one
     (subst (λ (x : ServerState). Overruns (names_go turn.at) x) middle (c.names_go.ensures.numbers is)))
@@ -149,7 +158,9 @@ returns-clause-numbers g c =
     c.requires.may c.requires.new in
     let middle = middle_is _ s store c.push.new.self c.in_ok-copy.field-0 r c.self.view_is c.in_ok-copy.ensures.same
     c.in_ok-push.ensures.added in
-    let other : (s.id == 0) ≡ false = ap (λ (x : ServerState). x.id == 0) (sym c.self.view_is) ∙ sym c.if-serves_names.ensures.names in
+    let kind : s.kind ≡ Ost = ap (λ (x : ServerState). x.kind) (sym c.self.view_is)
+    ∙ waits_objects c.requests_wait.result g.S.Service.kind c.requests_wait.ensures.waits c.if-requests_wait.false in
+    let other = objects_id s.id s.kind c.requires.stands.1.kind kind in
     over_as (λ v. follow v (Enters r ∷ []) (λ w. objects_go w turn.at r r.op)) (λ v. row_enters v turn.at r) s
     (enters_objects s turn.at r other)
     (over_then (λ v. Enters r ∷ []) (λ w. objects_go w turn.at r r.op) s (with_taken s store r) turn turn one
