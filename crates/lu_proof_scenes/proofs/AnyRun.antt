@@ -3,7 +3,7 @@ use Rattle.std.proofs.Common.{◌≡◌, Bool, true, false, List, [], ◌∷◌,
 use Rattle.lu_base.specs.declared.ids.At.{At}
 use Rattle.lu_spec_entries.specs.Words.{Entry, Line, with_turn}
 use Rattle.lu_spec_run.specs.Heads.{Head}
-use Rattle.lu_spec_run.specs.Runs.{has_failed, row_at, row, IsRow, Turn, lines_of, IsTurn, IsRun}
+use Rattle.lu_spec_run.specs.Runs.{has_failed, row_at, IsRow, Turn, lines_of, IsTurn, IsRun}
 use Rattle.lu_proof_lawful.specs.Covered.Runs.{AllCovered}
 use Rattle.lu_proof_run.proofs.Unfailed.{failed_stays}
 use Rattle.lu_proof_lawful.proofs.Preconditions.Obey.{grown}

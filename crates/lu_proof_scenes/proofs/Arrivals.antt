@@ -14,7 +14,6 @@ use Rattle.lu_base.specs.declared.ids.Node.{Node}
 use Rattle.lu_base.specs.declared.ids.Node.TheVariants.{Client, Target}
 use Rattle.lu_base.specs.declared.ids.Who.{Who}
 use Rattle.lu_base.specs.declared.locks.Cause.{Cause}
-use Rattle.lu_base.specs.declared.locks.Lock.{Lock}
 use Rattle.lu_layout.specs.Raid0.{Raid0}
 use Rattle.lu_spec_machine.specs.Fits.{answer_fits}
 use Rattle.lu_msg.specs.declared.answers.Answer.{Answer}

@@ -19,6 +19,7 @@ pub mod AnyLeft
 pub mod AnyStated
 pub mod Calls
 pub mod AnyFailed
+pub mod Whichever
 pub use Rattle.lu_proof_lawful.proofs.Invariants.All
 pub use Rattle.lu_proof_lawful.proofs.Invariants.Asked
 pub use Rattle.lu_proof_lawful.proofs.Invariants.Groups

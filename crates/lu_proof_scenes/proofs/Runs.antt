@@ -1,5 +1,5 @@
 -- Whatever a scenario comes to, where no disk has failed, is a covered run of the whole table; and it changes no bytes, where the scenario
--- doesn't.
+-- doesn't. Where one has failed, it did so in the last turn of a run of the table.
 use Rattle.std.proofs.Common.{◌≡◌, ℕ, zero, suc, ◌+◌, ◌<◌, ◌≤◌, Bool, true, false, List, [], ◌∷◌, Option, Some, None, inl, inr, refl, sym}
 use Rattle.std.proofs.Common.{subst, ap, arith}
 use Rattle.std.specs.Prelude.{not, if◌then◌else◌, length}
@@ -18,10 +18,12 @@ use Rattle.lu_spec_entries.specs.Sent.{Sent}
 use Rattle.lu_spec_client.specs.Calls.{is_dead}
 use Rattle.lu_spec_client.specs.Rows as client
 use Rattle.lu_spec_client.specs.States.{first_imports}
+use Rattle.lu_spec_target.specs.Disks.{row_start}
 use Rattle.lu_spec_target.specs.Rows as target
 use Rattle.lu_spec_run.specs.Heads.{Head}
-use Rattle.lu_spec_run.specs.Runs.{EventAt, lines_of, has_failed, IsRun, Meets, client_of, target_of, limits_of}
+use Rattle.lu_spec_run.specs.Runs.{EventAt, Turn, lines_of, has_failed, IsRun, Meets, row_at, client_of, target_of, limits_of}
 use Rattle.lu_spec_run.specs.Scenarios.{Config, Next, Stops, Fails, Goes, head_of, past_of, is_full, with_turn, left, Disks, start_fails}
+use Rattle.lu_spec_run.specs.Scenarios.{first_failing, fails_at}
 use Rattle.lu_spec_run.specs.Scenarios.{start_turn, is_down, turn_of, due, arrives, due_alive, comes, runs, next_by, with_stripes, Leads}
 use Rattle.lu_spec_run.specs.Scenarios.{here, more, start}
 use Rattle.lu_proof_lawful.specs.Covered.Runs.{AllCovered, AllBare}
@@ -47,6 +49,18 @@ pub record Follows (scene : Scene) (c : Config) : Type 0 where
   pub sound : Sound scene c
   pub lines : AllKnown scene c.lines
   pub time : Timely scene (ticks_of c.lines) (past_of c)
+
+-- a run in whose last turn a disk has failed, and in none before
+pub record Broke (head : Head) (c : Config) : Type 0 where
+  pub last : Turn
+  pub earlier : List Turn
+  pub turns : c.turns ≡ last ∷ earlier
+  pub run : IsRun head (last ∷ earlier)
+  pub before : has_failed (lines_of earlier) ≡ false
+
+-- so it is, if one has failed
+abbrev pub Breaks : Head → Config → Type 0
+Breaks head c = has_failed (past_of c) ≡ true → Broke head c
 
 goes : (c d : Config) → Goes c ≡ Goes d → c ≡ d
 goes c d e = cc
@@ -94,6 +108,18 @@ calm_first MayAsk head who =
       facts = tt;
     })
 
+-- ---- the target whose start fails is one of so many
+
+start_one : (disks : Disks) (from count t : ℕ) → start_fails disks from count ≡ Some t → t < from + count
+start_one disks from zero t is = absurd (cc)
+start_one disks from (suc count) t is =
+    by (first_failing (disks from) 0 2) is (λ e. let low = start_one disks (from + 1) count t e in omega (arith, low))
+  where
+    by : (o : Option ℕ) → (elim o [ Some n ↦ Some from | None ↦ start_fails disks (from + 1) count ]) ≡ Some t
+        → (start_fails disks (from + 1) count ≡ Some t → t < from + suc count) → t < from + suc count
+    by (Some n) e rest = let same : from ≡ t = cc in omega (arith, same)
+    by None e rest = rest e
+
 module _ (scene : Scene) (limits : KeepsLimits scene) (disks : Disks) where
   abbrev head : Head
   head = head_of scene.head
@@ -139,11 +165,18 @@ module _ (scene : Scene) (limits : KeepsLimits scene) (disks : Disks) where
 
   -- ---- one step: whatever comes next, if the run goes on
 
+  abbrev Went : Config → Type 0
+  Went d = (Spared scene limits (past_of d) → Follows scene d) × Breaks head d
+
   abbrev Kept : Next → Type 0
-  Kept next = (d : Config) → next ≡ Goes d → Spared scene limits (past_of d) → Follows scene d
+  Kept next = (d : Config) → next ≡ Goes d → Went d
+
+  -- none has failed without a turn
+  whole : (c : Config) → Follows scene c → Breaks head c
+  whole c f failed = let unfailed = covered_unfailed (past_of c) f.sound.covered in absurd (cc)
 
   moved : (c : Config) → Follows scene c → Kept (Goes c)
-  moved c f d e spared = subst (λ (v : Config). Follows scene v) (goes c d e) f
+  moved c f d e = subst Went (goes c d e) (λ spared. f, whole c f)
 
   left_moved : (c : Config) (lines : List SceneLine) → Sound scene c → Left c lines → Kept (Goes (left c lines))
   left_moved c lines s l = moved (left c lines) (record { sound = sound_left c lines s; lines = l.known; time = l.time })
@@ -164,13 +197,20 @@ module _ (scene : Scene) (limits : KeepsLimits scene) (disks : Disks) where
   due_keeps c node event known makes time = by (is_full c) refl
     where
       by : (full : Bool) → is_full c ≡ full → Kept (if full then Stops else Goes (with_turn c (turn_of head disks c node event)))
-      by true e = λ d same spared. absurd (cc)
-      by false e = λ d same spared.
+      by true e = λ d same. absurd (cc)
+      by false e = λ d same.
           let next = with_turn c (turn_of head disks c node event) in
-          let is = goes next d same in
-          subst (λ (v : Config). Follows scene v) is
-          (turn_follows c node event known (makes (has_room c e)) time
-          (subst (λ (v : Config). Spared scene limits (past_of v)) (sym is) spared))
+          let m = makes (has_room c e) in
+          subst Went (goes next d same) (
+            turn_follows c node event known m time,
+            λ failed. record {
+              last = turn_of head disks c node event;
+              earlier = c.turns;
+              turns = refl;
+              run = (m.breaks (fails_at disks (past_of c) node (row_at head (past_of c) (next_at c node) node event))).run;
+              before = m.before;
+            },
+          )
 
   -- ---- a line of a client
 
@@ -276,7 +316,7 @@ module _ (scene : Scene) (limits : KeepsLimits scene) (disks : Disks) where
       (boot_timely scene limits after t sound to.some (ticks_of rest) l.time)
 
   step_keeps : (c : Config) (lines : List SceneLine) → Sound scene c → Left c lines → Kept (next_by head disks c lines)
-  step_keeps c [] s l = λ d e spared. absurd (cc)
+  step_keeps c [] s l = λ d e. absurd (cc)
   step_keeps c (Call who slot call ∷ rest) s l =
       let k = l.known.0 in
       alive_keeps c who (client.Begins slot (with_stripes call)) rest s (rest_left c (Call who slot call) rest l) (k.among, k.limits)
@@ -304,9 +344,9 @@ module _ (scene : Scene) (limits : KeepsLimits scene) (disks : Disks) where
 
   -- a run goes on only where no disk has failed
   next_keeps : (c d : Config) (failed : Bool) → (if failed then Fails else next_by head disks c c.lines) ≡ Goes d
-      → Spared scene limits (past_of d) → Follows scene c → Follows scene d
-  next_keeps c d true e spared f = absurd (cc)
-  next_keeps c d false e spared f = step_keeps c c.lines f.sound (record { known = f.lines; time = f.time }) d e spared
+      → Follows scene c → Went d
+  next_keeps c d true e f = absurd (cc)
+  next_keeps c d false e f = step_keeps c c.lines f.sound (record { known = f.lines; time = f.time }) d e
 
   went_on : (c d : Config) (failed : Bool) → (if failed then Fails else next_by head disks c c.lines) ≡ Goes d → failed ≡ false
   went_on c d true e = absurd (cc)
@@ -351,8 +391,8 @@ module _ (scene : Scene) (limits : KeepsLimits scene) (disks : Disks) where
 
   leads_on : (a c : Config) → Leads head disks a c → Spared scene limits (past_of c) → Follows scene a → Follows scene c
   leads_on a _ (here _) spared f = f
-  leads_on a c (more _ b _ l e) spared f = next_keeps b c (has_failed (past_of b)) e spared
-      (leads_on a b l (inl (went_on b c (has_failed (past_of b)) e)) f)
+  leads_on a c (more _ b _ l e) spared f =
+      (next_keeps b c (has_failed (past_of b)) e (leads_on a b l (inl (went_on b c (has_failed (past_of b)) e)) f)).0 spared
 
   -- nor had one at first
   was_unfailed : (a c : Config) → Leads head disks a c → has_failed (past_of c) ≡ false → has_failed (past_of a) ≡ false
@@ -364,6 +404,27 @@ module _ (scene : Scene) (limits : KeepsLimits scene) (disks : Disks) where
   leads_follow c l unfailed =
       let first = start head disks scene in
       leads_on first c l (inl unfailed) (start_follows (start_fails disks 0 (head.osts + 1)) (was_unfailed first c l unfailed))
+
+  -- where one has failed, it was at a start or in the last turn: the run goes no further
+  start_breaks : (o : Option ℕ) → ((t : ℕ) → o ≡ Some t → t ≤ head.osts)
+      → Breaks head (record { turns = start_turn o; posts = []; lines = scene.lines })
+  start_breaks None one failed = absurd (cc)
+  start_breaks (Some t) one failed =
+      let first : Turn = record { at = record { stamp = record { 0 = 1 }; node = Target t }; entries = row_start true } in
+      record {
+        last = first;
+        earlier = [];
+        turns = refl;
+        run = (tt, inr (record { first = refl; target = t; one = one t refl; node = refl; is = refl }), tt);
+        before = refl;
+      }
+
+  pub leads_break : (c : Config) → Leads head disks (start head disks scene) c → Breaks head c
+  leads_break _ (here _) =
+      let first : Option ℕ = start_fails disks 0 (head.osts + 1) in
+      start_breaks first (λ t is. let few = start_one disks 0 (head.osts + 1) t is in omega (arith, few))
+  leads_break c (more _ b _ l e) =
+      (next_keeps b c (has_failed (past_of b)) e (leads_follow b l (went_on b c (has_failed (past_of b)) e))).1
 
   pub starts_follow : (c : Config) → IsQuiet scene → Leads head disks (start head disks scene) c → start_fails disks 0 (head.osts + 1)
       ≡ None → Follows scene c

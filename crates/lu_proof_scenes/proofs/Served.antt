@@ -13,7 +13,7 @@ use Rattle.lu_msg.specs.declared.calls.Call.{Call as CallOf}
 use Rattle.lu_msg.specs.declared.messages.Message.{Message}
 use Rattle.lu_msg.specs.declared.messages.Message.TheVariants as message
 use Rattle.lu_spec_entries.specs.Carried.{Called}
-use Rattle.lu_spec_entries.specs.Words.{Entry, Fail, Stands, Send, Take, Tick, Begin, Life, Grant, Block, Release, Commit, Evict, Joined}
+use Rattle.lu_spec_entries.specs.Words.{Entry, Fail, Stands, Send, Take, Tick, Begin, Life, Block, Release, Commit, Evict, Joined}
 use Rattle.lu_spec_entries.specs.Words.{Boot, Close, Wishes, Line, line, with_turn, is_target, same_life}
 use Rattle.lu_spec_target.specs.Disks.{calls, failing, over_disk}
 use Rattle.lu_spec_target.specs.Lives.{is_life, life_before, with_life, with_lives, without_lives}

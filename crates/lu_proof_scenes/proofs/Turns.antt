@@ -21,13 +21,13 @@ use Rattle.lu_spec_target.specs.Leaving.{condemned}
 use Rattle.lu_spec_target.specs.Rows as target
 use Rattle.lu_spec_target.specs.States.{Target, is_serving, lives_from, after, turn as target_turn}
 use Rattle.lu_spec_run.specs.Heads.{Head}
-use Rattle.lu_spec_run.specs.Runs.{EventAt, has_failed, row_at, Meets, HasNumbers, client_of, target_of, limits_of, setting_of}
+use Rattle.lu_spec_run.specs.Runs.{EventAt, has_failed, row, row_at, Meets, HasNumbers, client_of, target_of, limits_of, setting_of}
 use Rattle.lu_spec_run.specs.Scenarios.{Config, Disks, head_of, past_of, first_failing, fails_at, calls_at, with_turn}
 use Rattle.lu_proof_lawful.specs.Covered.Runs.{IsCovered, AllCovered}
 use Rattle.lu_proof_lawful.specs.Covered.TargetStates.{called_at}
 use Rattle.lu_proof_run.specs.InTable.{next_at, InTable}
 use Rattle.lu_proof_run.proofs.Clients.{client_own, client_other}
-use Rattle.lu_proof_run.proofs.Runs.{turned_in, IsCommand, command_meets, target_unfailed}
+use Rattle.lu_proof_run.proofs.Runs.{turn_in, turned_in, IsCommand, command_meets, target_unfailed}
 use Rattle.lu_proof_run.proofs.Targets.{target_own, target_other}
 use Rattle.lu_proof_lawful.proofs.Preconditions.Covers.{EntriesCovered}
 use Rattle.lu_proof_lawful.proofs.Preconditions.Grown.{Grown}
@@ -163,6 +163,10 @@ module _ (scene : Scene) (limits : KeepsLimits scene) where
     pub numbers : HasNumbers head (past_of c) (next_at c n) n event
     pub same : (disks : Disks) → Spared (with_lines (next_at c n) (over disks c n event) (past_of c)) → over disks c n event
         ≡ lines_at c n event
+    pub before : has_failed (past_of c) ≡ false
+    -- and whichever of its calls to a disk fails, it is a turn of the run
+    pub breaks : (fails : Option ℕ)
+        → InTable head (with_turn c (record { at = next_at c n; entries = row head (past_of c) (next_at c n) event fails }))
 
   -- ---- of a client
 
@@ -184,6 +188,8 @@ module _ (scene : Scene) (limits : KeepsLimits scene) where
             };
         numbers = tt;
         same = λ disks spared. refl;
+        before = unfailed c s;
+        breaks = λ fails. turn_in head c (node.Client who) event fails s.table (unfailed c s) meets tt;
       }
     where
       past : List Line
@@ -248,6 +254,8 @@ module _ (scene : Scene) (limits : KeepsLimits scene) where
             (fails_at disks past (node.Target t) es) at past es whole)
             (λ (quiet : IsQuiet scene). not_failing disks past (node.Target t) es
             (asks_none T (MayAsk scene) head.clients (λ may. may quiet) es all));
+        before = unfailed c s;
+        breaks = λ fails. turn_in head c (node.Target t) event fails s.table (unfailed c s) meets left;
       }
     where
       past : List Line

@@ -1,6 +1,5 @@
 -- Of every covered run.
-use Rattle.std.proofs.Common.{◌≡◌, ℕ, List, [], ◌∷◌, ◌⊎◌, inl, inr, ⊎_elim, arith}
-use Rattle.lu_base.specs.declared.ids.Node.{Node}
+use Rattle.std.proofs.Common.{◌≡◌, ℕ, List, arith}
 use Rattle.lu_base.specs.declared.ids.Node.TheVariants.{Client, Target}
 use Rattle.lu_base.specs.declared.locks.Lock.{Lock}
 use Rattle.lu_msg.specs.declared.messages.LockReplay.{LockReplay}
@@ -10,7 +9,7 @@ use Rattle.lu_msg.specs.declared.messages.RequestReplay.{RequestReplay}
 use Rattle.lu_spec_entries.specs.Concerns.{only}
 use Rattle.lu_spec_target.specs.Windows.{Replayed}
 use Rattle.lu_spec_run.specs.Heads.{Head}
-use Rattle.lu_spec_entries.specs.Words.{Entry, Send, Line, line}
+use Rattle.lu_spec_entries.specs.Words.{Line}
 use Rattle.lu_spec_run.specs.Runs.{Turn, lines_of, IsRun}
 use Rattle.lu_proof_lawful.specs.Covered.Runs.{AllCovered}
 use Rattle.lu_proof_lawful.specs.Covered.TargetStates.{replays_of, brought_of}
@@ -27,18 +26,7 @@ use Rattle.lu_proof_lawful.proofs.Preconditions.Obey.{stands}
 use Rattle.lu_proof_lawful.proofs.Coming.Lives.{lives_are_few}
 use Rattle.lu_proof_taken.specs.Taken.{WasSent, AllMayCome, KeptAgain, RestoredAgain, HandsIn, AllMayBeKept, AllMayBeRestored}
 use Rattle.lu_proof_taken.proofs.Comes.{comes_from}
-
-sent_was : (past : List Line) (from to : Node) (m : Message) → WasSent past from to m → Was past from to m
-sent_was [] from to m w = w
-sent_was (l ∷ past) from to m w = by l.entry w (λ v. sent_was past from to m v)
-  where
-    by : (e : Entry) → WasSent (line l.at e ∷ past) from to m → (WasSent past from to m → Was past from to m)
-        → Was (line l.at e ∷ past) from to m
-    by (Send node message) w more = ⊎_elim
-        (λ (here : (l.at.node ≡ from) × (node ≡ to) × (message ≡ m)). inl here)
-        (λ (before : WasSent past from to m). inr (more before))
-        w
-    by e w more = more w
+use Rattle.lu_proof_taken.proofs.Sends.{sent_was}
 
 pub all_may_come : AllMayCome
 all_may_come head turns is run covered short c t there m sent =
