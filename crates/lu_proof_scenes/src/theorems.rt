@@ -16,23 +16,17 @@ ghost use Rattle.lu_spec_laws.specs.Laws.History.{HistoryOf};
 ghost use Rattle.lu_spec_laws.specs.Orderly.{Orderly};
 ghost use Rattle.lu_proof_scenes.specs.Unfailed.{OfUnfailedRuns, OfRunsToFailure, OfAllThatFit, AllAreCovered, GoOn};
 
-/// Whatever a scenario comes to, where no call to a disk has failed, is a covered run of the whole table, so its trace is
-/// lawful, by all laws, whatever bytes it writes and whichever targets crash, boot, recover and close their windows. It is a
-/// run of the table with a lawful trace too whichever call fails, in a turn or at a target's start (`run_whatever_fails`,
-/// `whatever_fails`): that turn is the last. Where no line's call changes bytes, none begins (`bare`). Where beside that no
-/// line gives a command to a target and the lines show that no client is evicted no call has failed, unless one at a
-/// target's start: its turns make no other.
+/// Whatever a scenario comes to is a run of the whole table, and its trace is lawful, by all laws, whatever bytes it writes,
+/// whichever targets crash, boot, recover and close their windows, and whichever call to a disk fails, in a turn or at a target's
+/// start: that turn is the last. Where none has failed each line is covered. Where no line's call changes bytes, none begins
+/// (`bare`). Where beside that no line gives a command to a target and the lines show that no client is evicted no call has
+/// failed, unless one at a target's start: its turns make no other.
 pub fn scenes_are_lawful()
     ensures run { (scene : Scene) → KeepsLimits scene → let head = head_of scene.head in (disks : Disks) (c : Config)
-        → Leads head disks (start head disks scene) c → has_failed (past_of c) ≡ false → IsRun head c.turns }
+        → Leads head disks (start head disks scene) c → IsRun head c.turns }
     ensures covered { (scene : Scene) → KeepsLimits scene → let head = head_of scene.head in (disks : Disks) (c : Config)
         → Leads head disks (start head disks scene) c → has_failed (past_of c) ≡ false → AllCovered (past_of c) }
     ensures lawful { (scene : Scene) → KeepsLimits scene → let head = head_of scene.head in (disks : Disks) (c : Config)
-        → Leads head disks (start head disks scene) c → has_failed (past_of c) ≡ false
-        → Lawful scene.head.osts (printed (past_of c)) }
-    ensures run_whatever_fails { (scene : Scene) → KeepsLimits scene → let head = head_of scene.head in (disks : Disks) (c : Config)
-        → Leads head disks (start head disks scene) c → IsRun head c.turns }
-    ensures whatever_fails { (scene : Scene) → KeepsLimits scene → let head = head_of scene.head in (disks : Disks) (c : Config)
         → Leads head disks (start head disks scene) c → Lawful scene.head.osts (printed (past_of c)) }
     ensures bare { (scene : Scene) → IsBareScene scene → let head = head_of scene.head in (disks : Disks) (c : Config)
         → Leads head disks (start head disks scene) c → has_failed (past_of c) ≡ false → AllBare (past_of c) }
