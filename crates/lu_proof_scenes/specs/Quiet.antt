@@ -1,5 +1,4 @@
--- Scenarios that change no bytes, and those in which no turn asks a disk. What every scenario comes to is lawful, where no disk fails; of
--- one that is
+-- Scenarios that change no bytes, and those in which no turn asks a disk. What every scenario comes to is lawful; of one that is
 -- both more is known: no node refuses a turn.
 use Rattle.std.specs.Prelude.{◌<◌, ◌+◌, ℕ, zero, List, [], ◌∷◌, All, ◌⊎◌}
 use Rattle.lu_base.specs.declared.ids.Node.TheVariants.{Target}
