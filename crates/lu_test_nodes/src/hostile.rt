@@ -299,15 +299,14 @@ refused
 
 #[test]
 fn what_no_client_sends_is_refused_or_does_little(rt: HostRuntime) -> Result<(), Fail> {
-    for (run, all, text) in [
-        (NAMES, SERVING.as_slice(), SERVING_TEXT),
-        (NAMES, RECOVERING.as_slice(), RECOVERING_TEXT),
-        (OBJECTS, STRAY.as_slice(), STRAY_TEXT),
-        (NAMES, WAITING.as_slice(), WAITING_TEXT),
-    ] {
-        let out = played(rt.alloc(), run, None, all)?;
-        assert_eq!(rt; out.as_slice(), text);
-    }
+    let serving = played(rt.alloc(), NAMES, None, &SERVING)?;
+    assert_eq!(rt; serving.as_slice(), SERVING_TEXT);
+    let recovering = played(rt.alloc(), NAMES, None, &RECOVERING)?;
+    assert_eq!(rt; recovering.as_slice(), RECOVERING_TEXT);
+    let stray = played(rt.alloc(), OBJECTS, None, &STRAY)?;
+    assert_eq!(rt; stray.as_slice(), STRAY_TEXT);
+    let waiting = played(rt.alloc(), NAMES, None, &WAITING)?;
+    assert_eq!(rt; waiting.as_slice(), WAITING_TEXT);
     Ok(())
 }
 

@@ -165,14 +165,13 @@ const WRITE_THEN_READ_TEXT: &[u8] = b"11 t1 take 0
 
 #[test]
 fn a_target_writes_the_lines_of_its_traces(rt: HostRuntime) -> Result<(), Fail> {
-    for (run, all, text) in [
-        (run(0, 1), ONE_CLIENT.as_slice(), ONE_CLIENT_TEXT),
-        (run(0, 1), REPLY_LOST.as_slice(), REPLY_LOST_TEXT),
-        (run(0, 1), COMMANDS.as_slice(), COMMANDS_TEXT),
-        (run(1, 2), WRITE_THEN_READ.as_slice(), WRITE_THEN_READ_TEXT),
-    ] {
-        let out = played(rt.alloc(), run, None, all)?;
-        assert_eq!(rt; out.as_slice(), text);
-    }
+    let one = played(rt.alloc(), run(0, 1), None, &ONE_CLIENT)?;
+    assert_eq!(rt; one.as_slice(), ONE_CLIENT_TEXT);
+    let lost = played(rt.alloc(), run(0, 1), None, &REPLY_LOST)?;
+    assert_eq!(rt; lost.as_slice(), REPLY_LOST_TEXT);
+    let commanded = played(rt.alloc(), run(0, 1), None, &COMMANDS)?;
+    assert_eq!(rt; commanded.as_slice(), COMMANDS_TEXT);
+    let read = played(rt.alloc(), run(1, 2), None, &WRITE_THEN_READ)?;
+    assert_eq!(rt; read.as_slice(), WRITE_THEN_READ_TEXT);
     Ok(())
 }
