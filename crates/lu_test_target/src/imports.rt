@@ -1,5 +1,7 @@
 //! What a client asks of one target, and what it tells when the target recovers.
 
+ghost use Rattle.std.specs.Prelude.{◌<◌, ◌≤◌, ◌+◌, ◌^◌, OnOk};
+
 use crate::values::{A, FIRST, INODE, NEXT, mkdir, on_bits, reply};
 use lu_base::{Cookie, Lock, Mode, Numbers, TargetId, Txn, Xid};
 use lu_import::{Import, Standing};
@@ -12,6 +14,15 @@ fn sent(message: Option<&Message>) -> u64 {
         Some(Message::Request(request)) => request.xid.0,
         _ => 0,
     }
+}
+
+/// The number of the request that is sent next; 0 where none is.
+fn next_number(import: &mut Import) -> Result<u64, Fail>
+    requires { import.old.last < 2 ^ 63 }
+    ensures { OnOk result (import.new.last ≤ import.old.last + 1) }
+{
+    let message = import.next()?;
+    Ok(sent(message.as_ref()))
 }
 
 /// Whether a message is the word that so many replays and locks were sent.
@@ -29,8 +40,8 @@ fn a_request_goes_and_its_reply_is_heard_once(rt: HostRuntime) -> Result<(), Fai
     let alloc = rt.alloc();
     let mut import = Import::new(alloc, TargetId(0), A, 1, 1);
     import.queue(Some(0), mkdir(alloc)?)?;
-    assert_eq!(rt; sent(import.next()?.as_ref()), 1);
-    assert!(rt; import.next()?.is_none());
+    assert_eq!(rt; next_number(&mut import)?, 1);
+    assert_eq!(rt; next_number(&mut import)?, 0);
     assert_eq!(rt; import.in_flight(0).map(|request| request.0), Some(Xid(1)));
     assert_eq!(rt;
         import.find(Xid(1)).and_then(|request| request.slot),
@@ -49,7 +60,7 @@ fn a_boot_is_told_what_isnt_committed(rt: HostRuntime) -> Result<(), Fail> {
     let alloc = rt.alloc();
     let mut import = Import::new(alloc, TargetId(0), A, 1, 1);
     import.queue(Some(0), mkdir(alloc)?)?;
-    assert_eq!(rt; sent(import.next()?.as_ref()), 1);
+    assert_eq!(rt; next_number(&mut import)?, 1);
     assert_eq!(rt; import.hear(&reply(alloc, A, 1, Txn(FIRST))), Ok(true));
     let lock = Lock {
         cookie: Cookie(7),
